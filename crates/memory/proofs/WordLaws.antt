@@ -9,7 +9,8 @@ use lib.Seq.{getD-set-same, getD-set-other}
 use lib.Dec.{eqb, ltb}
 use borrow.Author.Tests.{eqb-true, eqb-false, ne-eqb, ltb-true, le-ltb}
 use Rattle.amount.specs.Choose.{_if_else_}
-use Rattle.memory.specs.Words.{word, Stored, Only, seg, quad, Four, sameFour, Filled}
+use Rattle.memory.specs.Words.{word, Stored, Only, seg, Four, sameFour, Filled}
+use Rattle.block.specs.Words.{quad}
 
 -- ---- one store ----
 

@@ -6,6 +6,7 @@ use Prim.Native.Nat.{ℕ, _+_, _≤_, _<_}
 use lib.ListN.{length, getD, set}
 use lib.Dec.{eqb, ltb}
 use Rattle.amount.specs.Choose.{_if_else_}
+use Rattle.block.specs.Words.{quad}
 
 -- the word at an address
 abbrev pub word : List ℕ → ℕ → ℕ
@@ -22,9 +23,6 @@ Only m m′ lo hi = (i : ℕ) → (lo ≤ i → i < hi → ⊥) → word m′ i 
 -- `len` words from `at` on, as a function that is 0 past them: two groups are equal by `fun-ext`
 abbrev pub seg : List ℕ → ℕ → ℕ → ℕ → ℕ
 seg m at len i = word m (at + i) if ltb i len else 0
-
-abbrev pub quad : ℕ → ℕ → ℕ → ℕ → ℕ → ℕ
-quad a b c d i = a if eqb i 0 else b if eqb i 1 else c if eqb i 2 else d if eqb i 3 else 0
 
 -- four words are written at `at`, and nothing else changes
 pub record Four (m m′ : List ℕ) (at a b c d : ℕ) : Type 0 where

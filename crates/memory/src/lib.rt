@@ -3,21 +3,15 @@
 ghost use mathlib.Core.Path.{_≡_};
 ghost use Prim.Native.Nat.{ℕ, _+_, _≤_, _<_};
 ghost use lib.ListN.{length};
-ghost use Rattle.memory.specs.Words.{word, seg, quad, Four, Filled, sameFour};
+ghost use Rattle.memory.specs.Words.{word, seg, Four, Filled, sameFour};
+ghost use Rattle.block.specs.Words.{quad};
 ghost use Rattle.memory.specs.Layout.{Laid};
+use block::Quad;
 
 // Document 01, "Numbers given back": the greatest rooms that a start accepts.
 pub const HASH_LIMIT: usize = 32768;
 
 pub const JOURNAL_LIMIT: usize = 200000;
-
-// A group of four words.
-pub struct Quad {
-    pub a: u64,
-    pub b: u64,
-    pub c: u64,
-    pub d: u64,
-}
 
 // The word at an address, as a place number.
 pub fn place_at(mem: &[u64], at: usize) -> usize

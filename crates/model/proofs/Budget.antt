@@ -10,7 +10,7 @@ use borrow.Author.Tests.{eqb-true, eq-eqb}
 use Rattle.model.specs.Places.{count, sum}
 use Rattle.model.specs.Holding.{Cell, free, held, Holdings, isLive, hasRoom}
 use Rattle.model.specs.Standing.{Values, parent}
-use Rattle.model.specs.Relink.{Pending, moves, worked, follows, after, before, next, settled}
+use Rattle.model.specs.Relink.{Pending, moves, worked, follows, after, goesBefore, next, settled}
 use Rattle.model.proofs.Tools.{byBool, byOption, no-both, and-right, pick-some}
 use Rattle.model.proofs.Turn.{moves-not, worked-once, worked-idle}
 use Rattle.model.proofs.Settled.{settled-none}
@@ -42,10 +42,12 @@ module _ (h : Holdings) where
     pending-grows : count (after h v p pend) (h .room) + 1 ≤ count pend (h .room) + followers h p
     unfolding after followers
     pending-grows =
-        omega (arith,
+        omega (
+          arith,
           sum-plus (λ q. cond (after h v p pend q) 1 0) (λ q. cond (pend q && not (eqb q p)) 1 0) (λ q. cond (follows (h .cells p) (h .cells q)) 1 0) (h .room) (λ q. go (pend q && not (eqb q p)) (moves h v p) (follows (h .cells p) (h .cells q))),
           sum-moves (λ q. cond (pend q) 1 0) (λ q. cond (pend q && not (eqb q p)) 1 0) (λ q. 0) (h .room) 1 p below (rw (pending, eq-eqb p p refl) (omega arith)) (λ q i. less (pend q) (not (eqb q p))),
-          sum-below (λ q. 0) (h .room) 0 (λ q. omega arith))
+          sum-below (λ q. 0) (h .room) 0 (λ q. omega arith),
+        )
       where
         go : (a b c : Bool) → cond (a || b && c) 1 0 ≤ cond a 1 0 + cond c 1 0
         go true b true = omega arith
@@ -63,8 +65,12 @@ module _ (h : Holdings) where
     moved : moves h v p ≡ true → budget h (worked h v p) (after h v p pend) < budget h v pend
     unfolding budget
     moved m =
-        omega (arith, pending-grows, sum-below (λ q. 0) (h .room) 0 (λ q. omega arith),
-          sum-moves (λ q. followers h q * above (parent h) (indexAt h) (h .room) (moves h v) q) (λ q. followers h q * above (parent h) (indexAt h) (h .room) (moves h (worked h v p)) q) (λ q. 0) (h .room) (followers h p) p below here there)
+        omega (
+          arith,
+          pending-grows,
+          sum-below (λ q. 0) (h .room) 0 (λ q. omega arith),
+          sum-moves (λ q. followers h q * above (parent h) (indexAt h) (h .room) (moves h v) q) (λ q. followers h q * above (parent h) (indexAt h) (h .room) (moves h (worked h v p)) q) (λ q. 0) (h .room) (followers h p) p below here there,
+        )
       where
         here : followers h p * above (parent h) (indexAt h) (h .room) (moves h (worked h v p)) p + followers h p ≤ followers h p * above (parent h) (indexAt h) (h .room) (moves h v) p
         here = omega (arith, mul-le-mul-left (followers h p) (above-less (parent h) (indexAt h) (rises h) (h .room) p below (moves h v) (moves h (worked h v p)) m (moves-not h (worked h v p) p (worked-once h v p)) (moves-same h v pend p pending below)))
@@ -77,7 +83,7 @@ module _ (h : Holdings) where
     idle m = rw (worked-idle h v p m) (omega (arith, count-falls h v pend p pending below m))
 
   pub budget-falls : (v : Values) (pend : Pending) (p : ℕ) → next h pend ≡ some p → budget h (worked h v p) (after h v p pend) < budget h v pend
-  budget-falls v pend p e = let k : (pend p ≡ true) × (p < h .room) = pick-some pend (λ p q. before (h .cells p) (h .cells q)) (h .room) p e in byBool (moves h v p) (moved v pend p (k .0) (k .1)) (idle v pend p (k .0) (k .1))
+  budget-falls v pend p e = let k : (pend p ≡ true) × (p < h .room) = pick-some pend (λ p q. goesBefore (h .cells p) (h .cells q)) (h .room) p e in byBool (moves h v p) (moved v pend p (k .0) (k .1)) (idle v pend p (k .0) (k .1))
 
   pub budget-end : (v : Values) (pend : Pending) → budget h v pend ≤ 0 → settled h v pend ≡ v
   budget-end v pend i = byOption (next h pend) (settled-none h v pend) (λ p e. absurd (omega (arith, budget-falls v pend p e)))
@@ -85,11 +91,19 @@ module _ (h : Holdings) where
   few : Distinct h → sum (followers h) (h .room) ≤ h .room * 1
   unfolding followers
   few distinct =
-      omega (arith, sum-swap (λ p q. cond (follows (h .cells p) (h .cells q)) 1 0) (h .room) (h .room),
-        sum-below (λ q. count (λ p. follows (h .cells p) (h .cells q)) (h .room)) (h .room) 1 (λ q. count-one (λ p. follows (h .cells p) (h .cells q)) (h .room) (λ a b i j. let o = follow-one (h .cells a) (h .cells b) (h .cells q) i j in distinct a b (o .0) (o .1) (o .2))))
+      omega (
+        arith,
+        sum-swap (λ p q. cond (follows (h .cells p) (h .cells q)) 1 0) (h .room) (h .room),
+        sum-below (λ q. count (λ p. follows (h .cells p) (h .cells q)) (h .room)) (h .room) 1 (λ q. count-one (λ p. follows (h .cells p) (h .cells q)) (h .room) (λ a b i j. let o = follow-one (h .cells a) (h .cells b) (h .cells q) i j in distinct a b (o .0) (o .1) (o .2))),
+      )
 
   pub budget-start : Distinct h → (v : Values) (pend : Pending) → budget h v pend ≤ h .room * h .room + h .room
   unfolding budget
   budget-start distinct v pend =
-      omega (arith, few distinct, mul-le-mul-left (h .room) (few distinct), count-below pend (h .room),
-        sum-scale (λ p. followers h p * above (parent h) (indexAt h) (h .room) (moves h v) p) (followers h) (h .room) (h .room) (λ p. mul-le-mul-left (followers h p) (above-small (parent h) (indexAt h) (h .room) (moves h v) p)))
+      omega (
+        arith,
+        few distinct,
+        mul-le-mul-left (h .room) (few distinct),
+        count-below pend (h .room),
+        sum-scale (λ p. followers h p * above (parent h) (indexAt h) (h .room) (moves h v) p) (followers h) (h .room) (h .room) (λ p. mul-le-mul-left (followers h p) (above-small (parent h) (indexAt h) (h .room) (moves h v) p)),
+      )

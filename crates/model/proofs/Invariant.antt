@@ -10,7 +10,7 @@ use borrow.Author.Tests.{eqb-true, eqb-false, eq-eqb, ne-eqb, ltb-true, ltb-fals
 use Rattle.model.specs.Places.{orElse, isSome, first, putAt}
 use Rattle.model.specs.Lists.{elem}
 use Rattle.model.specs.Record.{Header, Block}
-use Rattle.model.specs.Holding.{Answer, eligible, forNow, ineligible, Store, Held, Cell, free, held, Holdings, newRoom, setAnswer, effective, isFree, hasRoom, isHeld, isLive, isCanonical, released, changeAt, kept, keep, dropped, drop, hasCopy, answered, takeAnswer, touch, release, empty, withCells, placeOf, freePlace, storeOf, changesSince, answerOf}
+use Rattle.model.specs.Holding.{Answer, eligible, forNow, ineligible, Store, Held, Cell, free, held, Holdings, newRoom, setAnswer, effective, isFree, hasRoom, isHeld, isLive, isCanonical, released, changeAt, kept, keep, dropped, drop, hasCopy, answered, takeAnswer, touch, release, empty, withCells, placeOf, freePlace, storeOf, changesSince, changesIn, answerOf}
 use Rattle.model.specs.Standing.{Spine, winner, canonical, Value, unlinked, Values, notIneligible, may, standing, valueAt, fromNothing}
 use Rattle.model.specs.Relink.{changedIn, settled, relinked}
 use Rattle.model.specs.Numbers.{Point, State, Call, load, put, remove, answer, reload, sync, begin, clashes, cellFinal, isFinal, number, stale, changesFrom, changes, effect, step}
@@ -137,7 +137,7 @@ live-free (held c) e = no-both false e refl
 
 -- what is held does not count for the changes
 pub changes-cells : (h : Holdings) (cells : ℕ → Cell) (o : Option Point) → changesFrom (withCells h cells) o ≡ changesFrom h o
-unfolding changesSince
+unfolding changesSince changesIn
 changes-cells h cells none = refl
 changes-cells h cells (some at) = refl
 
@@ -196,7 +196,7 @@ module _ (Sure : Spine → Type 0) (s : State) (new : New) (inv : Inv Sure s new
 
     -- the changes to be had after it were to be had before, but for x
     pub before : (l : List ℕ) → changes (stale s (touch x written)) ≡ some l → (m : List ℕ) × (changes s ≡ some m) × ((y : ℕ) → elem y l ≡ (eqb y x || elem y m))
-    unfolding changesSince
+    unfolding changesSince changesIn
     before l e = byOption (s .synced) (λ n. no-none {a = l} none refl (rw n at e)) (λ at n. rw n (changes-touch written x (at .generation) (at .version) (inv .past at n .1) l (rw n at e)))
 
     touched : (new′ : New) → ((y : ℕ) → new′ y ≡ true → eqb y x ≡ false → new y ≡ true) → Inv Sure (stale s (touch x written)) new′

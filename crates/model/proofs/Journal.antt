@@ -10,7 +10,7 @@ use native.Mathlib.Omega.{arith}
 use lib.Dec.{eqb, ltb}
 use borrow.Author.Tests.{eqb-true, eqb-false, eq-eqb, ne-eqb, ltb-true, ltb-false, le-ltb}
 use Rattle.model.specs.Lists.{elem, distinct}
-use Rattle.model.specs.Holding.{Holdings, touch, changesSince, oldest}
+use Rattle.model.specs.Holding.{Holdings, touch, changesSince, changesIn}
 use Rattle.model.proofs.Tools.{byBool, no-both, no-none, or-left, or-right, elem-reverse, elem-distinct}
 
 pub elem-listed : (y : ℕ) (l : List ℕ) → elem y (reverse (distinct l)) ≡ elem y l
@@ -18,12 +18,12 @@ elem-listed y l = elem-reverse y (distinct l) ∙ elem-distinct y l
 
 -- at our own point the list is empty
 pub changes-here : (h : Holdings) → changesSince h (h .generation) (h .version) ≡ some []
-unfolding changesSince
+unfolding changesSince changesIn
 changes-here h = rw (eq-eqb (h .generation) (h .generation) refl, le-ltb (h .version) (h .version) (omega arith), eq-eqb (h .version) (h .version) refl)
 
 -- another generation has none
 pub changes-other : (h : Holdings) (g v : ℕ) → (g ≡ h .generation → ⊥) → changesSince h g v ≡ none
-unfolding changesSince
+unfolding changesSince changesIn
 changes-other h g v n = rw (ne-eqb g (h .generation) n)
 
 module _ (h : Holdings) (x g v : ℕ) (old : g ≡ h .generation → v ≤ h .version) where
@@ -40,7 +40,7 @@ module _ (h : Holdings) (x g v : ℕ) (old : g ≡ h .generation → v ≤ h .ve
 
     -- the list of the touched holdings, its tests done
     listed : cond (eqb (length kept) 0 || ltb (v + 1) (suc (suc (h .version)) - length kept)) none (some (reverse (distinct (take (suc (h .version) - v) kept)))) ≡ some l
-    unfolding changesSince touch kept
+    unfolding changesSince changesIn touch kept
     listed = rw (eq-eqb g (h .generation) same-generation, le-ltb (suc (h .version)) v (let i = le in omega arith), ne-eqb v (suc (h .version)) (λ z. let i : v ≤ h .version = le in let z : v ≡ suc (h .version) = z in omega arith)) at e
 
     enough : (eqb (length kept) 0 || ltb (v + 1) (suc (suc (h .version)) - length kept)) ≡ false
@@ -68,7 +68,7 @@ module _ (h : Holdings) (x g v : ℕ) (old : g ≡ h .generation → v ≤ h .ve
     elems y = rw (list-is, elem-listed, taken)
 
     pub changes-touch : (m : List ℕ) × (changesSince h g v ≡ some m) × ((y : ℕ) → elem y l ≡ (eqb y x || elem y m))
-    unfolding changesSince elem
+    unfolding changesSince changesIn elem
     changes-touch = byBool (eqb v (h .version)) here there
       where
         here : eqb v (h .version) ≡ true → (m : List ℕ) × (changesSince h g v ≡ some m) × ((y : ℕ) → elem y l ≡ (eqb y x || elem y m))
@@ -81,6 +81,6 @@ module _ (h : Holdings) (x g v : ℕ) (old : g ≡ h .generation → v ≤ h .ve
             let ne : v ≡ h .version → ⊥ = eqb-false v (h .version) i in
             let some-left : length (h .journal) ≡ 0 → ⊥ = λ z. let z : length (h .journal) ≡ 0 = z in absurd (omega (arith, fits, kept-length, le)) in (
               reverse (distinct (take (h .version - v) (h .journal))),
-              rw (eq-eqb g (h .generation) same-generation, le-ltb (h .version) v le, i, ne-eqb (length (h .journal)) 0 some-left, le-ltb (v + 1) (oldest h) (omega (arith, fits, kept-length))),
+              rw (eq-eqb g (h .generation) same-generation, le-ltb (h .version) v le, i, ne-eqb (length (h .journal)) 0 some-left, le-ltb (v + 1) (suc (h .version) - length (h .journal)) (omega (arith, fits, kept-length))),
               λ y. rw elem-listed (elems y),
             )

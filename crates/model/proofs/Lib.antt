@@ -15,7 +15,10 @@ pub mod Demand3
 pub mod NoSlack
 pub mod Cases
 pub mod EitherSide
+pub mod HoldingCases
+pub mod NumberCases
 pub mod ComparingLaws
+pub mod ComparingCases
 pub mod PlanCases
 pub mod ListLaws
 pub mod WalkLaws

@@ -9,7 +9,7 @@ use borrow.Author.Tests.{eq-eqb, ltb-false}
 use Rattle.model.specs.Places.{first, pick, thenBy}
 use Rattle.model.specs.Holding.{Cell, free, held, Holdings, isFree, hasRoom, isLive, placeOf, indexOf, hashOf}
 use Rattle.model.specs.Standing.{Value, isLinked, names, parent, workOf, outranks, best}
-use Rattle.model.specs.Relink.{Pending, turnOf, before, next}
+use Rattle.model.specs.Relink.{Pending, turnOf, goesBefore, next}
 use Rattle.model.proofs.Tools.{byBool, byOption, no-both, and-left, or-left, or-right, first-only, pick-some, pick-none}
 use Rattle.model.proofs.Order.{next-least, best-outranks}
 use Rattle.model.proofs.Parent.{Distinct, named-one}
@@ -35,13 +35,13 @@ module _ (h : Holdings) (distinct : Distinct h) where
 
   -- a pending place that no pending one goes before
   pub next-only : (pend : Pending) → ((q : ℕ) → pend q ≡ true → isFree (h .cells q) ≡ false) → (p : ℕ) → pend p ≡ true → p < h .room
-      → ((q : ℕ) → pend q ≡ true → q < h .room → before (h .cells q) (h .cells p) ≡ false) → next h pend ≡ some p
-  unfolding before
-  next-only pend taken p b i k = byOption (next h pend) (λ e. no-both (pend p) b (pick-none pend (λ p q. before (h .cells p) (h .cells q)) (h .room) p e i)) one
+      → ((q : ℕ) → pend q ≡ true → q < h .room → goesBefore (h .cells q) (h .cells p) ≡ false) → next h pend ≡ some p
+  unfolding goesBefore
+  next-only pend taken p b i k = byOption (next h pend) (λ e. no-both (pend p) b (pick-none pend (λ p q. goesBefore (h .cells p) (h .cells q)) (h .room) p e i)) one
     where
       one : (r : ℕ) → next h pend ≡ some r → next h pend ≡ some p
       one r e =
-          let m : (pend r ≡ true) × (r < h .room) = pick-some pend (λ p q. before (h .cells p) (h .cells q)) (h .room) r e in
+          let m : (pend r ≡ true) × (r < h .room) = pick-some pend (λ p q. goesBefore (h .cells p) (h .cells q)) (h .room) r e in
           let t = thenBy-tie (turnOf (h .cells r)) (turnOf (h .cells p)) (ltb (hashOf (h .cells r)) (hashOf (h .cells p))) (ltb (hashOf (h .cells p)) (hashOf (h .cells r))) (k r (m .0) (m .1)) (next-least h pend r p e b i) in
           e ∙ ap {B = Option ℕ} some (one-place r p (taken r (m .0)) (taken p b) (less-tie (hashOf (h .cells r)) (hashOf (h .cells p)) (t .0) (t .1)))
 

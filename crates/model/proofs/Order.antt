@@ -9,7 +9,7 @@ use borrow.Author.Tests.{ltb-true, lt-ltb, le-ltb}
 use Rattle.model.specs.Places.{pick, thenBy}
 use Rattle.model.specs.Holding.{Cell, Holdings, indexOf, hashOf}
 use Rattle.model.specs.Standing.{Value, isLinked, workOf, outranks, best}
-use Rattle.model.specs.Relink.{Pending, turnOf, before, next}
+use Rattle.model.specs.Relink.{Pending, turnOf, goesBefore, next}
 use Rattle.model.proofs.Tools.{thenBy-self, thenBy-trans, pick-least}
 
 pub less-trans : (a b c : ℕ) → ltb a b ≡ true → ltb b c ≡ true → ltb a c ≡ true
@@ -18,16 +18,16 @@ less-trans a b c e f = lt-ltb a c (omega (arith, ltb-true a b e, ltb-true b c f)
 pub less-self : (a : ℕ) → ltb a a ≡ false
 less-self a = le-ltb a a (omega arith)
 
-before-self : (c : Cell) → before c c ≡ false
-unfolding before
+before-self : (c : Cell) → goesBefore c c ≡ false
+unfolding goesBefore
 before-self c = thenBy-self (turnOf c) _ (less-self (hashOf c))
 
-before-trans : (c d e : Cell) → before c d ≡ true → before d e ≡ true → before c e ≡ true
-unfolding before
+before-trans : (c d e : Cell) → goesBefore c d ≡ true → goesBefore d e ≡ true → goesBefore c e ≡ true
+unfolding goesBefore
 before-trans c d e = thenBy-trans (turnOf c) (turnOf d) (turnOf e) (ltb (hashOf c) (hashOf d)) (ltb (hashOf d) (hashOf e)) (ltb (hashOf c) (hashOf e)) (less-trans (hashOf c) (hashOf d) (hashOf e))
 
-pub next-least : (h : Holdings) (pend : Pending) (p q : ℕ) → next h pend ≡ some p → pend q ≡ true → q < h .room → before (h .cells q) (h .cells p) ≡ false
-next-least h pend p q = pick-least pend (λ p q. before (h .cells p) (h .cells q)) (λ p. before-self (h .cells p)) (λ p q r. before-trans (h .cells p) (h .cells q) (h .cells r)) (h .room) p q
+pub next-least : (h : Holdings) (pend : Pending) (p q : ℕ) → next h pend ≡ some p → pend q ≡ true → q < h .room → goesBefore (h .cells q) (h .cells p) ≡ false
+next-least h pend p q = pick-least pend (λ p q. goesBefore (h .cells p) (h .cells q)) (λ p. before-self (h .cells p)) (λ p q r. before-trans (h .cells p) (h .cells q) (h .cells r)) (h .room) p q
 
 module _ (h : Holdings) (v : ℕ → Value) where
   outranks-self : (p : ℕ) → outranks h v p p ≡ false

@@ -10,7 +10,7 @@ use borrow.Author.Tests.{lt-ltb}
 use Rattle.model.specs.Places.{first, thenBy}
 use Rattle.model.specs.Holding.{Cell, free, held, Holdings, hasRoom, isLive, indexOf, hashOf}
 use Rattle.model.specs.Standing.{Spine, Value, unlinked, Values, standing, names, parent, valueAt}
-use Rattle.model.specs.Relink.{Pending, workOut, turnOf, before, next}
+use Rattle.model.specs.Relink.{Pending, workOut, turnOf, goesBefore, next}
 use Rattle.model.proofs.Tools.{byBool, byOption, no-both, no-none, and-left, and-right, first-some, first-none, first-only, first-nowhere}
 use Rattle.model.proofs.Order.{next-least}
 use Rattle.model.proofs.Turn.{named, workNamed, Consistent, names-index, named-some, parent-some, work-dead, named-dead}
@@ -58,11 +58,11 @@ module _ (h : Holdings) (distinct : Distinct h) where
 
   -- the next place is worked out alike by both
   pub next-agrees : (w : Spine) (v : Values) (pend : Pending) (p : ℕ) → next h pend ≡ some p → ((q : ℕ) → pend q ≡ false → Consistent h w v q) → workOut h v w p ≡ workNamed h v w p
-  unfolding workOut workNamed before
+  unfolding workOut workNamed goesBefore
   next-agrees w v pend p e k = byBool (isLive (h .cells p)) alive (λ l. work-dead h v w p l ∙ sym (named-dead h v w p l))
     where
       alive : isLive (h .cells p) ≡ true → workOut h v w p ≡ workNamed h v w p
-      alive l = ap (standing w (h .cells p)) (parent-value (v w) p (λ r n d. byBool (pend r) (λ b. no-both (before (h .cells r) (h .cells p)) (first-of r n d) (next-least h pend p r e b (named-some h p r n .1))) (λ b. k r b ∙ named-dead h v w r d)))
+      alive l = ap (standing w (h .cells p)) (parent-value (v w) p (λ r n d. byBool (pend r) (λ b. no-both (goesBefore (h .cells r) (h .cells p)) (first-of r n d) (next-least h pend p r e b (named-some h p r n .1))) (λ b. k r b ∙ named-dead h v w r d)))
         where
-          first-of : (r : ℕ) → named h p ≡ some r → isLive (h .cells r) ≡ false → before (h .cells r) (h .cells p) ≡ true
+          first-of : (r : ℕ) → named h p ≡ some r → isLive (h .cells r) ≡ false → goesBefore (h .cells r) (h .cells p) ≡ true
           first-of r n d = rw (l, d) (rw (lt-ltb 0 (indexOf (h .cells p)) (omega (arith, names-index (h .cells p) (h .cells r) (named-some h p r n .0)))))

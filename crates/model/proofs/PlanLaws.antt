@@ -14,7 +14,7 @@ use Rattle.model.specs.Comparing.{Comparison, chooseVerified, isAdopted}
 use Rattle.model.specs.Walks.{Asked, index, isCanon, coversAt, walkOf, fork, above, under}
 use Rattle.model.specs.Writes.{Change, promote, demote, orphan, Write, Plan, scan, apply, copyAfter}
 use Rattle.model.specs.Select.{on, off, aside, demotions, stop, heldBack, goesOn, promotions, competitors, switch, selectAt, selectFrom, select}
-use Rattle.model.specs.Adopt.{leavesOf, extension, ancestor, safeFront, ours, peers, Verdict, passOn, refused, accepted, floorRefuses, isStale, refusal, rival, acceptance, decided, judgeSafe, judgeAbove, judge, before, then, searchLeaves, adoptFrom, adopt}
+use Rattle.model.specs.Adopt.{leavesOf, extension, ancestor, safeFront, ours, peers, Verdict, passOn, refused, accepted, floorRefuses, isStale, refusal, rival, acceptance, decided, judgeSafe, judgeAbove, judge, firstThose, then, searchLeaves, adoptFrom, adopt}
 use Rattle.model.proofs.Tools.{byBool, byOption, no-both}
 use Rattle.model.proofs.ListLaws.{elem-head, elem-cases, elem-append, elem-only, elem-those, elem-front, elem-rev}
 

@@ -8,7 +8,7 @@ use lib.Dec.{eqb, ltb}
 use borrow.Author.Tests.{eqb-true, eqb-false, eq-eqb, ne-eqb, ltb-true, ltb-false}
 use Rattle.model.specs.Holding.{Cell, Holdings, isFree, indexOf}
 use Rattle.model.specs.Standing.{Spine, winner, canonical, Value, Values, names, parent}
-use Rattle.model.specs.Relink.{Pending, workOut, moves, worked, follows, after, before, next, settle, turns, settled}
+use Rattle.model.specs.Relink.{Pending, workOut, moves, worked, follows, after, goesBefore, next, settle, turns, settled}
 use Rattle.model.proofs.Tools.{byBool, byOption, no-both, no-none, or-left, or-none, pick-some, pick-none}
 use Rattle.model.proofs.Turn.{Consistent, names-index, parent-some, moves-not, worked-there, worked-once, worked-idle, work-elsewhere, turn-consistent, follows-free}
 use Rattle.model.proofs.Turns.{bound, turns-fall, turns-start}
@@ -76,7 +76,7 @@ module _ (h : Holdings) where
   settled-consistent w v pend distinct wide k = settled-induction (Kept w) (λ u. (q : ℕ) → Consistent h w u q) end (λ v pend p k e. kept-turn w distinct v pend p e k) v pend k
     where
       end : (v : Values) (pend : Pending) → Kept w v pend → next h pend ≡ none → (q : ℕ) → Consistent h w v q
-      end v pend k e q = byBool (ltb q (h .room)) (λ i. k .consistent q (pick-none pend (λ p q. before (h .cells p) (h .cells q)) (h .room) q e (ltb-true q (h .room) i))) (λ i. k .consistent q (k .roomy q (wide q (ltb-false q (h .room) i))))
+      end v pend k e q = byBool (ltb q (h .room)) (λ i. k .consistent q (pick-none pend (λ p q. goesBefore (h .cells p) (h .cells q)) (h .room) q e (ltb-true q (h .room) i))) (λ i. k .consistent q (k .roomy q (wide q (ltb-false q (h .room) i))))
 
   -- `settled` is the one function with its two laws: its turns are no part of what it says
   pub settled-once : (f : Values → Pending → Values)

@@ -10,7 +10,7 @@ use borrow.Author.Tests.{eq-eqb}
 use Rattle.model.specs.Places.{count, sum}
 use Rattle.model.specs.Holding.{Holdings, indexOf}
 use Rattle.model.specs.Standing.{winner, canonical, Values, parent}
-use Rattle.model.specs.Relink.{Pending, moves, worked, after, before, next, turns}
+use Rattle.model.specs.Relink.{Pending, moves, worked, after, goesBefore, next, turns}
 use Rattle.model.proofs.Tools.{byBool, or-none, pick-some}
 use Rattle.model.proofs.Turn.{names-index, parent-some, moves-not, worked-there, worked-once, worked-idle, work-elsewhere}
 use Rattle.model.proofs.Forest.{above, above-small, dues-fall}
@@ -66,7 +66,7 @@ module _ (h : Holdings) where
 
   -- each turn leaves fewer: a measure for a loop that takes them
   pub turns-fall : (v : Values) (pend : Pending) (p : ℕ) → next h pend ≡ some p → bound h (worked h v p) (after h v p pend) < bound h v pend
-  turns-fall v pend p e = let k : (pend p ≡ true) × (p < h .room) = pick-some pend (λ p q. before (h .cells p) (h .cells q)) (h .room) p e in turn-bound v pend p (k .0) (k .1)
+  turns-fall v pend p e = let k : (pend p ≡ true) × (p < h .room) = pick-some pend (λ p q. goesBefore (h .cells p) (h .cells q)) (h .room) p e in turn-bound v pend p (k .0) (k .1)
 
   -- and to begin with it is at most what `settled` allows
   pub turns-start : (v : Values) (pend : Pending) → bound h v pend ≤ turns (h .room)

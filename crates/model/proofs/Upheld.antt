@@ -11,7 +11,7 @@ use Rattle.model.specs.Places.{isSome, first, putAt, thenBy}
 use Rattle.model.specs.Lists.{elem}
 use Rattle.model.specs.Holding.{Answer, eligible, Held, Cell, free, held, Holdings, setAnswer, answered, effective, isFree, hasRoom, isHeld, isLive, released, release, withCells, placeOf, takeAnswer, touch, storeOf, keep, drop, hasCopy, empty, indexOf, hashOf, answerOf}
 use Rattle.model.specs.Standing.{Spine, winner, canonical, Value, unlinked, linked, Values, isLinked, standing, names, parent, valueAt}
-use Rattle.model.specs.Relink.{before as goesBefore, Pending, workOut, worked, moves, follows, after, turnOf, next, settled, changedIn, relinked}
+use Rattle.model.specs.Relink.{goesBefore, Pending, workOut, worked, moves, follows, after, turnOf, next, settled, changedIn, relinked}
 use Rattle.model.specs.Numbers.{State, Call, load, put, remove, answer, reload, sync, begin, number, stale, changesFrom, changes, effect, step}
 use Rattle.model.specs.Runs.{New, Run, start, call, newOf}
 use Rattle.model.proofs.Tools.{byBool, byOption, no-both, no-none, and-left, or-left, or-right, first-some, first-none, first-only, first-nowhere, pick-none, put-same, put-other}

@@ -12,7 +12,7 @@ use Rattle.amount.specs.Amounts.{Amount, readable, unreadable, limit}
 use Rattle.model.specs.Lists.{elem, only, front, find, last, total}
 use Rattle.model.specs.Record.{Copy}
 use Rattle.model.specs.Holding.{eligible, setAnswer, answered, Held, Cell, free, held, Holdings, effective, copyIsLive, copyIsCanonical, isLive, isCanonical, indexOf}
-use Rattle.model.specs.Standing.{above as addTo, Spine, winner, canonical, Value, unlinked, linked, isLinked, notIneligible, meetsTarget, onActual, may, standing, parent, valueAt, workOf}
+use Rattle.model.specs.Standing.{onParent, Spine, winner, canonical, Value, unlinked, linked, isLinked, notIneligible, meetsTarget, onActual, may, standing, parent, valueAt, workOf}
 use Rattle.model.specs.Walks.{cellActual, amountOf, onward, down, walk}
 use Rattle.model.proofs.Tools.{byBool, byOption, no-both, no-none, and-left, and-right}
 use Rattle.model.proofs.Turn.{names-index, parent-some}
@@ -100,7 +100,7 @@ rule-cases {P} w (held c) below x ok e zeroth higher = byBool (may w c) (λ m. g
     no-way : unlinked ≡ linked x ok → P
     no-way e = let z : _≡_ {A = ℕ} 0 1 = cc in absurd (omega arith)
 
-    up : (a : ℕ) → c .header .actual ≡ readable a → (b : Value) → below ≡ b → addTo (c .header) a b ≡ linked x ok → P
+    up : (a : ℕ) → c .header .actual ≡ readable a → (b : Value) → below ≡ b → onParent (c .header) a b ≡ linked x ok → P
     up a q unlinked r e = no-way e
     up a q (linked y good) r e = byBool (ltb (y + a) limit) (λ i. let e′ : linked (y + a) (good && meetsTarget (c .header)) ≡ linked x ok = rw i at e in let z : y + a ≡ x = cc in higher y good r (rw q (sym z))) (λ i. no-way (rw i at e))
 

@@ -89,13 +89,13 @@ unfoldable pub judge : Asked → ℕ → ℕ → Verdict
 judge a local leaf = passOn if isCanon a leaf else judgeAbove a local (extension a leaf) (ancestor a leaf)
 
 -- .. the search goes on. The first accepted one ends it, with `changed` its safe length, otherwise 0.
-abbrev pub before : List Write → Plan → Plan
-before ws scan = scan
-before ws (apply n l) = apply n (ws ++ l)
+abbrev pub firstThose : List Write → Plan → Plan
+firstThose ws scan = scan
+firstThose ws (apply n l) = apply n (ws ++ l)
 
 abbrev pub then : Verdict → Plan → Plan
 then passOn rest = rest
-then (refused ws) rest = before ws rest
+then (refused ws) rest = firstThose ws rest
 then (accepted n ws) rest = apply n ws
 
 unfoldable pub searchLeaves : Asked → ℕ → List ℕ → Plan

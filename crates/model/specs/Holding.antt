@@ -177,18 +177,18 @@ touch x h = record { room = h .room; journalRoom = h .journalRoom; cells = h .ce
 
 -- ---- changes since (generation, version) ----
 
--- the version of the journal's oldest entry, if it has one
-abbrev pub oldest : Holdings → ℕ
-oldest h = suc (h .version) - length (h .journal)
-
 -- None to be had for another generation or a version above ours; an empty list at our version; none to be had if the journal is empty
 -- or its oldest entry is above version + 1; otherwise the distinct hashes touched later, in the order of their last touch.
+-- (Versions are consecutive, so the oldest entry's is version + 1 - length.)
+unfoldable pub changesIn : ℕ → ℕ → List ℕ → ℕ → ℕ → Option (List ℕ)
+changesIn generation version journal g v =
+    none if not (eqb g generation) || ltb version v else
+    some [] if eqb v version else
+    none if eqb (length journal) 0 || ltb (v + 1) (suc version - length journal) else
+    some (reverse (distinct (take (version - v) journal)))
+
 unfoldable pub changesSince : Holdings → ℕ → ℕ → Option (List ℕ)
-changesSince h g v =
-    none if not (eqb g (h .generation)) || ltb (h .version) v else
-    some [] if eqb v (h .version) else
-    none if eqb (length (h .journal)) 0 || ltb (v + 1) (oldest h) else
-    some (reverse (distinct (take (h .version - v) (h .journal))))
+changesSince h g v = changesIn (h .generation) (h .version) (h .journal) g v
 
 -- ---- start, reload, and what a sync frees ----
 

@@ -40,22 +40,27 @@ hashLimit = 32768
 abbrev pub journalLimit : ℕ
 journalLimit = 200000
 
--- 1 ROOM: hash room not 1 to 32,768, journal not 1 to 200,000, or memory shorter than these two need by one formula. `need` is that formula (docs/MEMORY.md).
+-- 1 ROOM: hash room not 1 to 32,768, journal not 1 to 200,000, or memory shorter than these two need by one formula. The memory, and `need`,
+-- which is that formula (docs/MEMORY.md), are counted in words of eight bytes.
 abbrev pub startNumber : (ℕ → ℕ → ℕ) → ℕ → ℕ → ℕ → ℕ
 startNumber need memory room journalRoom = 0 if leb 1 room && leb room hashLimit && leb 1 journalRoom && leb journalRoom journalLimit && leb (need room journalRoom) memory else 1
 
--- .. of at most 1,024 bytes a hash, 64 a journal entry, and 4,096. (In bytes; docs/MEMORY.md counts words of eight.)
+-- .. of at most 1,024 bytes a hash, 64 a journal entry, and 4,096.
 abbrev pub Modest : (ℕ → ℕ → ℕ) → Type 0
-Modest need = (room journalRoom : ℕ) → need room journalRoom ≤ 1024 * room + 64 * journalRoom + 4096
+Modest need = (room journalRoom : ℕ) → 8 * need room journalRoom ≤ 1024 * room + 64 * journalRoom + 4096
 
 abbrev pub begin : ℕ → ℕ → ℕ → ℕ → State
 begin room journalRoom generation version = record { holdings = empty room journalRoom generation version; values = λ w p. unlinked; synced = none; fresh = false }
 
+-- a start on what was there before: a refusal leaves it
+abbrev pub started : ℕ → State → State → State
+started number before after = after if eqb number 0 else before
+
 -- ---- when a call is refused ----
 
 -- 2^64 - 1
-abbrev pub last : ℕ
-last = 18446744073709551615
+abbrev pub maxWord : ℕ
+maxWord = 18446744073709551615
 
 -- 4 HEADER: hash has room under another header.
 abbrev pub cellDiffers : Block → Cell → Bool
@@ -87,18 +92,18 @@ unfoldable pub number : Call → State → ℕ
 number (load k b) s =
     7 if not (s .holdings .loading) else
     2 if ltb 2 k else
-    3 if eqb (b .header .index) last else
+    3 if eqb (b .header .index) maxWord else
     4 if otherHeader (s .holdings) b else
     5 if full (s .holdings) b else 0
 number (put k b) s =
     2 if ltb 2 k else
-    3 if eqb (b .header .index) last else
+    3 if eqb (b .header .index) maxWord else
     4 if otherHeader (s .holdings) b else
     5 if full (s .holdings) b else
-    6 if eqb (s .holdings .version) last else 0
+    6 if eqb (s .holdings .version) maxWord else 0
 number (remove k x) s =
     2 if ltb 2 k else
-    6 if hasCopy (storeOf k) x (s .holdings) && eqb (s .holdings .version) last else 0
+    6 if hasCopy (storeOf k) x (s .holdings) && eqb (s .holdings .version) maxWord else 0
 number (answer x a) s =
     10 if ltb 2 a else
     9 if not (isSome (placeOf (s .holdings) x)) else

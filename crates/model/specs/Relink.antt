@@ -45,11 +45,11 @@ after h v p pend q = pend q && not (eqb q p) || moves h v p && follows (h .cells
 abbrev pub turnOf : Cell → ℕ
 turnOf c = indexOf c if isLive c else 0
 
-unfoldable pub before : Cell → Cell → Bool
-before c d = thenBy (turnOf c) (turnOf d) (ltb (hashOf c) (hashOf d))
+unfoldable pub goesBefore : Cell → Cell → Bool
+goesBefore c d = thenBy (turnOf c) (turnOf d) (ltb (hashOf c) (hashOf d))
 
 abbrev pub next : Holdings → Pending → Option ℕ
-next h pend = pick pend (λ p q. before (h .cells p) (h .cells q)) (h .room)
+next h pend = pick pend (λ p q. goesBefore (h .cells p) (h .cells q)) (h .room)
 
 -- at most so many turns
 unfoldable pub settle : ℕ → Holdings → Values → Pending → Values

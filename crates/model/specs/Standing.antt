@@ -58,14 +58,14 @@ proofsOk (linked w ok) = ok
 
 -- .. above, the parent must be linked, work is the parent's plus the actual, and proofs are ok if the parent's are and it meets target.
 -- A sum over 128 bits: not linked.
-abbrev pub above : Header → ℕ → Value → Value
-above b a unlinked = unlinked
-above b a (linked w ok) = linked (w + a) (ok && meetsTarget b) if ltb (w + a) limit else unlinked
+abbrev pub onParent : Header → ℕ → Value → Value
+onParent b a unlinked = unlinked
+onParent b a (linked w ok) = linked (w + a) (ok && meetsTarget b) if ltb (w + a) limit else unlinked
 
 -- Linked: .. actual readable ..; at index 0 work is the actual and proofs are ok; ..
 abbrev pub onActual : Header → Value → Amount → Value
 onActual b below unreadable = unlinked
-onActual b below (readable a) = linked a true if eqb (b .index) 0 else above b a below
+onActual b below (readable a) = linked a true if eqb (b .index) 0 else onParent b a below
 
 abbrev pub notIneligible : Answer → Bool
 notIneligible eligible = true

@@ -1,0 +1,10 @@
+//! The tests of both engines.
+mod amounts;
+mod common;
+mod comparison;
+mod either_side;
+mod judge;
+mod program;
+mod recorded;
+mod refusals;
+mod tools;

@@ -1,0 +1,74 @@
+//! The original's files of both its crates in one crate, so that what is
+//! `pub(crate)` there can be reached, behind `history::Engine`.
+//!
+//! Where the sources are not at hand (see build.rs) the crate compiles empty
+//! and [`start`] gives none.
+#![allow(dead_code, unused_imports, unused_extern_crates)]
+extern crate self as modality_datastore;
+extern crate shim_macros as async_trait;
+extern crate shim_macros as serde;
+extern crate shims as anyhow;
+extern crate shims as chrono;
+extern crate shims as log;
+extern crate shims as modality_common;
+extern crate shims as modality_miner;
+extern crate shims as serde_json;
+
+#[cfg(at_hand)]
+mod adapter;
+#[cfg(at_hand)]
+mod convert;
+#[cfg(at_hand)]
+mod datastore;
+mod journal_room;
+
+#[cfg(at_hand)]
+pub use datastore::DatastoreManager;
+pub use journal_room::JournalRoom;
+
+/// True when the original's sources were found and are compiled in.
+pub const fn at_hand() -> bool {
+    cfg!(at_hand)
+}
+
+/// A new tree over empty holdings; none where the sources are not at hand.
+/// The journal room is heeded in `original-journal` only.
+#[cfg(at_hand)]
+pub fn start(generation: u64, journal_room: u64) -> Option<Box<dyn history::Engine>> {
+    Some(Box::new(adapter::Original::new(generation, journal_room)))
+}
+
+#[cfg(not(at_hand))]
+pub fn start(_: u64, _: u64) -> Option<Box<dyn history::Engine>> {
+    None
+}
+
+#[cfg(at_hand)]
+pub mod models {
+    pub mod miner {
+        include!(concat!(env!("OUT_DIR"), "/miner.rs"));
+        pub use cache::{MinerBlockCache, MinerStoreKind};
+        pub use miner_block::MinerBlock;
+        pub use tree::{Eligibility, LinkedWork, MinerTree};
+    }
+    pub use miner::MinerBlock;
+}
+
+#[cfg(at_hand)]
+pub mod chain {
+    include!(concat!(env!("OUT_DIR"), "/chain.rs"));
+}
+
+#[cfg(at_hand)]
+pub mod model {
+    use std::collections::HashMap;
+
+    /// Shim of the datastore's trait: its signatures.
+    pub trait Model {
+        const ID_PATH: &'static str;
+        const FIELDS: &'static [&'static str];
+        const FIELD_DEFAULTS: &'static [(&'static str, serde_json::Value)];
+        fn set_field(&mut self, field: &str, value: serde_json::Value);
+        fn get_id_keys(&self) -> HashMap<String, String>;
+    }
+}
