@@ -1,0 +1,5 @@
+pub mod StatusLaws
+pub mod PlaceLaws
+pub mod StepLaws
+pub mod AdmitLaws
+pub mod FillLaws

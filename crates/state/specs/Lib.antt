@@ -1,0 +1,4 @@
+-- What a lent memory stands for, when it is sound, and what the steps of a call promise.
+pub mod View
+pub mod Sound
+pub mod Moves
