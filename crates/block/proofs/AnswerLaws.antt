@@ -1,5 +1,4 @@
 -- Document 01, "Numbers given back": a number tells its refusal, and 0 tells that a call was done, so that a promise of the number is one of the answer.
---
 use Prim.Native.Nat.{ℕ}
 use mathlib.Core.Path.{_≡_, refl, sym, _∙_, ap}
 use native.Mathlib.Omega.{arith}

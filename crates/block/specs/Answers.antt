@@ -3,8 +3,8 @@
 use Prim.Native.Nat.{ℕ}
 use mathlib.Core.List.{List}
 use mathlib.Core.Option.{Option, none, some}
-use lib.Dec.{ltb}
-use lib.ListN.{take}
+use lib.Dec.{ltb, leb}
+use lib.ListN.{length, take}
 use Rattle.amount.specs.Choose.{_if_else_}
 use Rattle.amount.specs.Value.{value}
 use Rattle.model.specs.Comparing as comparing
@@ -155,16 +155,16 @@ abbrev pub countedReply : Counted → model.Reply
 countedReply (CountedAt n) = model.counted n
 countedReply (CountRefused r) = model.counted 0
 
--- over the hashes that stand in the lent list after the call
+-- over the hashes that stand in the lent list after the call; a count past the list says nothing
 abbrev pub listedReply : List ℕ → Listed → model.Reply
-listedReply lent (ListedAt n) = model.listed (some (take n lent))
+listedReply lent (ListedAt n) = model.listed (some (take n lent) if leb n (length lent) else none)
 listedReply lent ListNone = model.listed none
 listedReply lent (ListRefused r) = model.listed none
 
 -- over the entries that stand in the lent list after the call
 abbrev pub plannedReply : List Entry → Planned → PlanReply
 plannedReply lent Scan = scanned
-plannedReply lent (Apply changed n) = applied changed (take n lent)
+plannedReply lent (Apply changed n) = applied changed (take n lent) if leb n (length lent) else scanned
 plannedReply lent (PlanRefused r) = scanned
 
 -- ---- the comparison ----

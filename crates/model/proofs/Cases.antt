@@ -192,6 +192,15 @@ is-in-time : InTime in-run
 unfolding everything in-run InTime newOf newNext newAfter
 is-in-time = (tt, ((λ two taken. refl), (tt, (tt, (tt, tt)))))
 
+-- a load gives room as a put does: the answer for a loaded A before the first sync is in time, too
+loaded-run : Run (calls (load 0 (genesis plain) ∷ load 0 (a plain) ∷ answer 20 2 ∷ sync ∷ []) started)
+unfolding calls
+loaded-run = call sync (call (answer 20 2) (call (load 0 (a plain)) (call (load 0 (genesis plain)) (start 5 5 1 0))))
+
+loaded-in-time : InTime loaded-run
+unfolding everything loaded-run InTime newOf newNext newAfter
+loaded-in-time = (tt, ((λ two taken. refl), (tt, (tt, tt))))
+
 -- why the premise is there: an ineligible answer after the sync leaves a fresh tree with a value that 01's rules do not give
 abbrev late : State
 late = calls (answer 20 2 ∷ []) first-sync

@@ -1,3 +1,4 @@
+-- Laws and theorems of this crate; each function's own proof stands in a folder of its name.
 pub mod Tools
 pub mod Sums
 pub mod Order

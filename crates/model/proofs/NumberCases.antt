@@ -12,7 +12,7 @@ use Rattle.model.proofs.Cases.{calls, everything, plain, dead, block, g
 
 -- ---- 1 ROOM ----
 
--- hash room not 1 to 32,768, journal not 1 to 200,000, or memory shorter than these two need: here a byte for each
+-- hash room not 1 to 32,768, journal not 1 to 200,000, or memory shorter than these two need: here a word for each
 abbrev needs : ℕ → ℕ → ℕ
 needs room journalRoom = room + journalRoom
 
@@ -57,7 +57,7 @@ answering : (number (answer 40 0) held-all ≡ 9) × (number (answer 20 3) held-
 unfolding everything
 answering = (refl, refl, refl, refl, refl, refl, refl, refl, refl, refl)
 
--- 12 STALE: no sync since the maxWord accepted start, reload, load, put or effective removal. An answer, a refused call and the removal of an absent copy leave the tree fresh.
+-- 12 STALE: no sync since the last accepted start, reload, load, put or effective removal. An answer, a refused call and the removal of an absent copy leave the tree fresh.
 staleness : (askTree bestQ started ≡ 12) × (askTree bestQ first-sync ≡ 0) × (askTree bestQ (calls (put 0 (a plain) ∷ []) first-sync) ≡ 12) × (askTree bestQ (calls (remove 0 20 ∷ []) first-sync) ≡ 12) × (askTree bestQ (calls (reload 2 0 ∷ []) first-sync) ≡ 12) × (askTree bestQ (calls (load 0 (a plain) ∷ []) started) ≡ 12) × (askTree bestQ (calls (answer 20 2 ∷ put 3 (a plain) ∷ remove 1 20 ∷ []) first-sync) ≡ 0)
 unfolding everything
 staleness = (refl, refl, refl, refl, refl, refl, refl)

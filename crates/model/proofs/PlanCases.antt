@@ -146,6 +146,11 @@ module _ (clock : ℤ) where
   unfolding plans
   select-known = refl
 
+  -- Local's side is its canonical linked value: A, ineligible and so not linked, has work 8 in line and stays over 50 with 6.
+  local-unlinked : selected none (calls (put 0 (genesis inLine) ∷ put 0 (a inLine) ∷ put 0 (lighter plain) ∷ answer 20 2 ∷ sync ∷ []) (begin 6 6 1 0)) ≡ applied 0 []
+  unfolding plans
+  local-unlinked = refl
+
   -- Stop unless best is adopted, or the fork is local and all aside are on best's walk: best misses its target above local. Then 50 is aside and off its walk (A misses its target, so that no floor holds it back).
   above-local : (selected none (tree (a inLine ∷ on-a-missing plain ∷ [])) ≡ applied 1 (entry 40 promoted ∷ []))
       × (selected none (tree (a inLine ∷ lighter inLine ∷ on-a-missing plain ∷ [])) ≡ applied 1 (entry 50 (demoted offSpine) ∷ entry 40 promoted ∷ []))
@@ -210,6 +215,12 @@ module _ (clock : ℤ) where
       × (adopted none (tree (block 20 1 10 0 5 5 inLine ∷ block 30 1 10 0 2 2 plain ∷ block 40 2 30 0 3 3 plain ∷ [])) ≡ applied 2 (entry 20 (orphaned clock (peerTip 2 1) (some 30)) ∷ entry 30 promoted ∷ entry 40 promoted ∷ []))
   unfolding plans
   peer-work = (refl, refl)
+
+  -- Both tips are the last blocks: of equal work and index 35 goes before 40, though 50 stands below the one and 30 below the other.
+  tips-compared : adopted none (tree (block 30 1 10 0 3 3 inLine ∷ block 40 2 30 0 3 3 inLine ∷ block 50 1 10 0 3 3 plain ∷ block 35 2 50 0 3 3 plain ∷ [])) ≡ applied 2
+      (entry 30 (orphaned clock peerHash (some 50)) ∷ entry 50 promoted ∷ entry 35 promoted ∷ entry 40 (orphaned clock peerHash (some 35)) ∷ [])
+  unfolding plans
+  tips-compared = refl
 
   -- Accepted exactly when the peer is adopted: of equal work and index, with the higher hash, it isn't.
   peer-kept : adopted none (tree (a inLine ∷ block 30 1 10 0 3 3 plain ∷ [])) ≡ applied 0 []

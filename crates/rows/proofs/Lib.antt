@@ -1,1 +1,2 @@
+-- Laws and theorems of this crate; each function's own proof stands in a folder of its name.
 pub mod RowLaws

@@ -1,0 +1,3 @@
+-- The laws of the calls on the holdings: inside the room, and where a record goes.
+pub mod CallLaws
+pub mod PutLaws

@@ -1,0 +1,3 @@
+-- What the calls on the holdings promise.
+pub mod Calls
+pub mod Seats

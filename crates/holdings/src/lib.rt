@@ -1,0 +1,129 @@
+// The calls on the holdings (document 01, "Holding blocks", "Numbers given back"): each reads the room from the head, and works inside of it.
+ghost use mathlib.Core.Path.{_≡_};
+ghost use Rattle.block.specs.Answers.{doneNumber};
+ghost use Rattle.block.specs.Records.{blockMeans, hashMeans, headerMeans};
+ghost use Rattle.holdings.specs.Calls.{Within};
+ghost use Rattle.holdings.specs.Seats.{Below, Seats};
+ghost use Rattle.memory.specs.Layout.{Laid};
+ghost use Rattle.model.specs.Holding.{answerOf};
+ghost use Rattle.model.specs.Numbers as numbers;
+ghost use Rattle.model.specs.Numbers.{clashes};
+ghost use Rattle.model.specs.Record.{Block as Stored};
+ghost use Rattle.state.specs.Moves as moves;
+ghost use Rattle.state.specs.Sound.{SoundAt};
+ghost use Rattle.state.specs.View.{viewAt};
+use block::Done;
+use block::Header;
+use block::Refusal;
+use hash::Hash;
+
+// Where a record goes: refused, in the room that its hash has, or in new room.
+pub enum Seated {
+    No(Refusal),
+    Old(usize),
+    New(usize),
+}
+
+// ---- answers ----
+
+// Another answer where 0 or 2 is held.
+fn clash(held: u64, a: u64) -> bool
+    ensures { λ r. ⌜ r ≡ clashes a (answerOf held) ⌝ }
+{
+    if held == 0 {
+        return a != 0;
+    }
+    if held == 1 {
+        return false;
+    }
+    a != 2
+}
+
+fn answer_in(mem: &mut [u64], n: usize, h: Hash, a: u64) -> Done
+    requires { ⌜ Laid (now mem) n ⌝ }
+    ensures { λ r. ⌜ Within (numbers.answer (hashMeans h) a) (now (mem .entry)) (now (mem .exit)) n (doneNumber r) ⌝ }
+{
+    if 2 < a {
+        return Done::Refused(Refusal::Value);
+    }
+    let p = state::find(mem, n, h.first, h.second, h.third, h.fourth);
+    if n <= p {
+        return Done::Refused(Refusal::Unknown);
+    }
+    if clash(mem[64 + 68 * p + 1], a) {
+        return Done::Refused(Refusal::Final);
+    }
+    places::mark(mem, n, p, a);
+    Done::Done
+}
+
+pub fn answer(mem: &mut [u64], h: Hash, a: u64) -> Done
+    ensures { λ r. ⌜ moves.Done (numbers.answer (hashMeans h) a) (now (mem .entry)) (now (mem .exit)) (doneNumber r) ⌝ }
+{
+    let n = memory::room(mem);
+    if n == 0 {
+        return Done::Refused(Refusal::Room);
+    }
+    answer_in(mem, n, h, a)
+}
+
+// ---- removals ----
+
+fn remove_in(mem: &mut [u64], n: usize, store: u64, h: Hash) -> Done
+    requires { ⌜ Laid (now mem) n ⌝ }
+    ensures { λ r. ⌜ Within (numbers.remove store (hashMeans h)) (now (mem .entry)) (now (mem .exit)) n (doneNumber r) ⌝ }
+{
+    if 2 < store {
+        return Done::Refused(Refusal::Kind);
+    }
+    let p = state::find(mem, n, h.first, h.second, h.third, h.fourth);
+    if n <= p {
+        return Done::Done;
+    }
+    if mem[64 + 68 * p + 20 + 12 * store as usize] == 0 {
+        return Done::Done;
+    }
+    if mem[3] == 18446744073709551615 {
+        return Done::Refused(Refusal::Version);
+    }
+    places::take_out(mem, n, p, store);
+    journal::touch(mem, n, h.first, h.second, h.third, h.fourth);
+    Done::Done
+}
+
+pub fn remove(mem: &mut [u64], store: u64, h: Hash) -> Done
+    ensures { λ r. ⌜ moves.Done (numbers.remove store (hashMeans h)) (now (mem .entry)) (now (mem .exit)) (doneNumber r) ⌝ }
+{
+    let n = memory::room(mem);
+    if n == 0 {
+        return Done::Refused(Refusal::Room);
+    }
+    remove_in(mem, n, store, h)
+}
+
+// ---- puts ----
+
+// Where a record goes. The refusals that a load and a put share, in their order: 3, 4, 5.
+fn seat(mem: &[u64], n: usize, header: Header) -> Seated
+    requires { ⌜ Laid (now mem) n ⌝ }
+    ensures below { λ r. ⌜ Below n r ⌝ }
+    ensures right { λ r. ⌜ (SoundAt (now (mem .entry)) n → (b : Stored) → b .header ≡ headerMeans header → Seats b (viewAt (now (mem .entry)) n) r) ⌝ }
+{
+    if header.index == 18446744073709551615 {
+        return Seated::No(Refusal::Index);
+    }
+    let h = header.hash;
+    let p = state::find(mem, n, h.first, h.second, h.third, h.fourth);
+    if p < n {
+        let old = rows::read_header(mem, 64 + 68 * p + 4);
+        if !block::headers::same_header(old, header) {
+            return Seated::No(Refusal::Header);
+        }
+        return Seated::Old(p);
+    }
+    let q = state::free_place(mem, n);
+    if n <= q {
+        return Seated::No(Refusal::Full);
+    }
+    Seated::New(q)
+}
