@@ -23,7 +23,9 @@ use Rattle.state.specs.Moves.{Stands, Apart, Moves, withCell}
 use Rattle.state.proofs.FindLaws.{placed-in, placed-out}
 use Rattle.state.proofs.TouchSteps.{touched}
 use Rattle.holdings.specs.Calls.{Within}
-use Rattle.holdings.specs.Seats.{seatNumber}
+use Rattle.places.specs.Steps.{Replaces}
+use Rattle.places.specs.Admits.{Admits}
+use Rattle.holdings.specs.Seats.{seatNumber, Known, Roomy}
 use Rattle.holdings.proofs.CallLaws.{within-refused, within-done, apart-then, place-held, cell-is}
 
 -- ---- where a record goes ----
@@ -121,7 +123,7 @@ module _ (m : List ℕ) (n k : ℕ) (b : Block) where
         (λ s. put-number k b (viewAt m n) false true 0 (le-ltb 2 k k≤2) (f s) (eq-eqb (viewAt m n .holdings .version) maxWord (version-is ∙ v)))
 
     -- the record is kept at p, and its hash touched
-    module _ (p : ℕ) (m₁ m₂ : List ℕ) (more : word m 3 ≡ maxWord → ⊥) (P : SoundAt m n → Type 0) (f : SoundAt m n → seatNumber b (viewAt m n) ≡ 0)
+    module _ (p : ℕ) (m₁ m₂ : List ℕ) (more : word m 3 ≡ maxWord → ⊥) (f : SoundAt m n → seatNumber b (viewAt m n) ≡ 0)
         (first : SoundAt m n → Stands m₁ n (withCell (viewAt m n) p (kept (storeOf k) b (viewAt m n .holdings .cells p)))) (a₁ : SoundAt m n → Apart m m₁ n)
         (t : Moves m₁ m₂ n (viewAt m₁ n .holdings .version ≡ maxWord → ⊥) (touched (b .header .hash) (viewAt m₁ n))) where
       due : SoundAt m n → viewAt m₁ n .holdings .version ≡ maxWord → ⊥
@@ -133,6 +135,20 @@ module _ (m : List ℕ) (n k : ℕ) (b : Block) where
           (λ s. put-number k b (viewAt m n) false false 0 (le-ltb 2 k k≤2) (f s) (ne-eqb (viewAt m n .holdings .version) maxWord (λ y. more (sym version-is ∙ y))))
           (λ s. let r = t .right (first s .sound) (due s) in record { sound = r .sound; state = r .state ∙ ap (touched (b .header .hash)) (first s .state) ∙ e s })
           (λ s. apart-then m m₁ m₂ n (a₁ s) (t .apart (first s .sound) (due s)))
+
+    module _ (p : ℕ) (m₁ m₂ : List ℕ) (more : word m 3 ≡ maxWord → ⊥)
+        (t : Moves m₁ m₂ n (viewAt m₁ n .holdings .version ≡ maxWord → ⊥) (touched (b .header .hash) (viewAt m₁ n))) where
+      pub put-old : (SoundAt m n → Known b (viewAt m n) p) → Replaces m m₁ n p k b → Within (put k b) m m₂ n 0
+      put-old f r = put-done p m₁ m₂ more (λ s. f s .0) (λ s. r .right s (due-old s)) (λ s. r .apart s (due-old s)) t (λ s. put-old-effect k b (viewAt m n) p (f s .1))
+        where
+          due-old : SoundAt m n → (k ≤ 2) × (isFree (viewAt m n .holdings .cells p) ≡ false)
+          due-old s = (k≤2, place-held (viewAt m n .holdings) (b .header .hash) p (f s .1))
+
+      pub put-new : (SoundAt m n → Roomy b (viewAt m n) p) → Admits m m₁ n p k b → Within (put k b) m m₂ n 0
+      put-new f r = put-done p m₁ m₂ more (λ s. f s .0) (λ s. r .right s (due-new s)) (λ s. r .apart s (due-new s)) t (λ s. put-new-effect k b (viewAt m n) p (f s .1) (f s .2))
+        where
+          due-new : SoundAt m n → (k ≤ 2) × (freePlace (viewAt m n .holdings) ≡ some p) × (placeOf (viewAt m n .holdings) (b .header .hash) ≡ none)
+          due-new s = (k≤2, f s .2, f s .1)
 
 -- ---- a load: the same without a touch ----
 

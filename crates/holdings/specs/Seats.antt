@@ -24,7 +24,15 @@ Below n (No x) = Unit {0}
 Below n (Old p) = p < n
 Below n (New p) = p < n
 
+-- nothing speaks against it, and its hash has room at p
+abbrev pub Known : Block → State → ℕ → Type 0
+Known b s p = (seatNumber b s ≡ 0) × (placeOf (s .holdings) (b .header .hash) ≡ some p)
+
+-- nothing speaks against it, its hash has no room, and p is the lowest free place
+abbrev pub Roomy : Block → State → ℕ → Type 0
+Roomy b s p = (seatNumber b s ≡ 0) × (placeOf (s .holdings) (b .header .hash) ≡ none) × (freePlace (s .holdings) ≡ some p)
+
 abbrev pub Seats : Block → State → Seated → Type 0
 Seats b s (No x) = seatNumber b s ≡ refusalNumber x
-Seats b s (Old p) = (seatNumber b s ≡ 0) × (placeOf (s .holdings) (b .header .hash) ≡ some p)
-Seats b s (New p) = (seatNumber b s ≡ 0) × (placeOf (s .holdings) (b .header .hash) ≡ none) × (freePlace (s .holdings) ≡ some p)
+Seats b s (Old p) = Known b s p
+Seats b s (New p) = Roomy b s p

@@ -1,9 +1,10 @@
 // The calls on the holdings (document 01, "Holding blocks", "Numbers given back"): each reads the room from the head, and works inside of it.
 ghost use mathlib.Core.Path.{_≡_};
+ghost use Prim.Native.Nat.{_≤_, _<_};
 ghost use Rattle.block.specs.Answers.{doneNumber};
 ghost use Rattle.block.specs.Records.{blockMeans, hashMeans, headerMeans};
 ghost use Rattle.holdings.specs.Calls.{Within};
-ghost use Rattle.holdings.specs.Seats.{Below, Seats};
+ghost use Rattle.holdings.specs.Seats.{Below, Known, Roomy, Seats};
 ghost use Rattle.memory.specs.Layout.{Laid};
 ghost use Rattle.model.specs.Holding.{answerOf};
 ghost use Rattle.model.specs.Numbers as numbers;
@@ -12,6 +13,7 @@ ghost use Rattle.model.specs.Record.{Block as Stored};
 ghost use Rattle.state.specs.Moves as moves;
 ghost use Rattle.state.specs.Sound.{SoundAt};
 ghost use Rattle.state.specs.View.{viewAt};
+use block::Block;
 use block::Done;
 use block::Header;
 use block::Refusal;
@@ -126,4 +128,61 @@ fn seat(mem: &[u64], n: usize, header: Header) -> Seated
         return Seated::No(Refusal::Full);
     }
     Seated::New(q)
+}
+
+fn put_old(mem: &mut [u64], n: usize, p: usize, store: u64, b: Block) -> Done
+    requires { ⌜ Laid (now mem) n × (p < n) ⌝ }
+    ensures { λ r. ⌜ (store ≤ 2 → (SoundAt (now (mem .entry)) n → Known (blockMeans b) (viewAt (now (mem .entry)) n) p) → Within (numbers.put store (blockMeans b)) (now (mem .entry)) (now (mem .exit)) n (doneNumber r)) ⌝ }
+{
+    if mem[3] == 18446744073709551615 {
+        return Done::Refused(Refusal::Version);
+    }
+    places::replace(mem, n, p, store, b.copy);
+    let h = b.header.hash;
+    journal::touch(mem, n, h.first, h.second, h.third, h.fourth);
+    Done::Done
+}
+
+fn put_new(mem: &mut [u64], n: usize, p: usize, store: u64, b: Block) -> Done
+    requires { ⌜ Laid (now mem) n × (p < n) ⌝ }
+    ensures { λ r. ⌜ (store ≤ 2 → (SoundAt (now (mem .entry)) n → Roomy (blockMeans b) (viewAt (now (mem .entry)) n) p) → Within (numbers.put store (blockMeans b)) (now (mem .entry)) (now (mem .exit)) n (doneNumber r)) ⌝ }
+{
+    if mem[3] == 18446744073709551615 {
+        return Done::Refused(Refusal::Version);
+    }
+    places::admit(mem, n, p, store, b.header, b.copy);
+    let h = b.header.hash;
+    journal::touch(mem, n, h.first, h.second, h.third, h.fourth);
+    Done::Done
+}
+
+fn put_in(mem: &mut [u64], n: usize, store: u64, b: Block) -> Done
+    requires { ⌜ Laid (now mem) n ⌝ }
+    ensures { λ r. ⌜ Within (numbers.put store (blockMeans b)) (now (mem .entry)) (now (mem .exit)) n (doneNumber r) ⌝ }
+{
+    if 2 < store {
+        return Done::Refused(Refusal::Kind);
+    }
+    match seat(mem, n, b.header) {
+        Seated::No(x) => {
+            return Done::Refused(x);
+        }
+        Seated::Old(p) => {
+            return put_old(mem, n, p, store, b);
+        }
+        Seated::New(p) => {
+            return put_new(mem, n, p, store, b);
+        }
+    }
+}
+
+// A record goes into its store, in the room of its hash or in new room.
+pub fn put(mem: &mut [u64], store: u64, b: Block) -> Done
+    ensures { λ r. ⌜ moves.Done (numbers.put store (blockMeans b)) (now (mem .entry)) (now (mem .exit)) (doneNumber r) ⌝ }
+{
+    let n = memory::room(mem);
+    if n == 0 {
+        return Done::Refused(Refusal::Room);
+    }
+    put_in(mem, n, store, b)
 }
