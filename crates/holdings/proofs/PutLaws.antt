@@ -1,4 +1,5 @@
 -- Loads and puts, between states of the model.
+use Prim.{tt}
 use mathlib.Core.Path.{_≡_, refl, sym, ap, _∙_}
 use mathlib.Core.Bool.{Bool, true, false, not}
 use mathlib.Core.List.{List}
@@ -196,3 +197,43 @@ module _ (m : List ℕ) (n : ℕ) (x : Header) where
 
       pub new-room : q < n → SoundAt m n → (b : Block) → b .header ≡ x → (seatNumber b (viewAt m n) ≡ 0) × (placeOf (viewAt m n .holdings) (b .header .hash) ≡ none) × (freePlace (viewAt m n .holdings) ≡ some q)
       new-room q<n s b h = seat-new m n b (low-of b h) p (at-of s b h) n≤p q (lowest s) q<n
+
+module _ (m : List ℕ) (n k : ℕ) (b : Block) where
+  loading-is : (t : Bool) → eqb (word m 6) 1 ≡ t → viewAt m n .holdings .loading ≡ t
+  unfolding viewAt
+  loading-is t e = e
+
+  pub load-closed : (word m 6 ≡ 1 → ⊥) → Within (load k b) m m n 7
+  load-closed c = within-refused (load k b) m n 7 (λ z. omega arith) (λ s. load-number k b (viewAt m n) false _ _ (loading-is false (ne-eqb (word m 6) 1 c)) refl refl)
+
+  module _ (due : word m 6 ≡ 1) where
+    still : viewAt m n .holdings .loading ≡ true
+    still = loading-is true (eq-eqb (word m 6) 1 due)
+
+    pub load-kind : 2 < k → Within (load k b) m m n 2
+    load-kind h = within-refused (load k b) m n 2 (λ z. omega arith) (λ s. load-number k b (viewAt m n) true true _ still (lt-ltb 2 k h) refl)
+
+    module _ (k≤2 : k ≤ 2) where
+      pub load-seat : (x : ℕ) → (x ≡ 0 → ⊥) → (SoundAt m n → seatNumber b (viewAt m n) ≡ x) → Within (load k b) m m n x
+      load-seat x ne f = within-refused (load k b) m n x ne (λ s. load-number k b (viewAt m n) true false x still (le-ltb 2 k k≤2) (f s))
+
+      module _ (p : ℕ) (m₁ m₂ : List ℕ) (t : Moves m₁ m₂ n (Unit {0}) (stale (viewAt m₁ n) (viewAt m₁ n .holdings))) where
+        load-done : (SoundAt m n → seatNumber b (viewAt m n) ≡ 0)
+            → (SoundAt m n → Stands m₁ n (withCell (viewAt m n) p (kept (storeOf k) b (viewAt m n .holdings .cells p)))) → (SoundAt m n → Apart m m₁ n)
+            → (SoundAt m n → stale (viewAt m n) (withCell (viewAt m n) p (kept (storeOf k) b (viewAt m n .holdings .cells p)) .holdings) ≡ effect (load k b) (viewAt m n)) → Within (load k b) m m₂ n 0
+        load-done f first a₁ e =
+            within-done (load k b) m m₂ n (λ s. load-number k b (viewAt m n) true false 0 still (le-ltb 2 k k≤2) (f s))
+            (λ s. let r = t .right (first s .sound) tt in record { sound = r .sound; state = r .state ∙ ap (λ (z : State). stale z (z .holdings)) (first s .state) ∙ e s })
+            (λ s. apart-then m m₁ m₂ n (a₁ s) (t .apart (first s .sound) tt))
+
+        pub load-old : (SoundAt m n → Known b (viewAt m n) p) → Replaces m m₁ n p k b → Within (load k b) m m₂ n 0
+        load-old f r = load-done (λ s. f s .0) (λ s. r .right s (due-old s)) (λ s. r .apart s (due-old s)) (λ s. load-old-effect k b (viewAt m n) p (f s .1))
+          where
+            due-old : SoundAt m n → (k ≤ 2) × (isFree (viewAt m n .holdings .cells p) ≡ false)
+            due-old s = (k≤2, place-held (viewAt m n .holdings) (b .header .hash) p (f s .1))
+
+        pub load-new : (SoundAt m n → Roomy b (viewAt m n) p) → Admits m m₁ n p k b → Within (load k b) m m₂ n 0
+        load-new f r = load-done (λ s. f s .0) (λ s. r .right s (due-new s)) (λ s. r .apart s (due-new s)) (λ s. load-new-effect k b (viewAt m n) p (f s .1) (f s .2))
+          where
+            due-new : SoundAt m n → (k ≤ 2) × (freePlace (viewAt m n .holdings) ≡ some p) × (placeOf (viewAt m n .holdings) (b .header .hash) ≡ none)
+            due-new s = (k≤2, f s .2, f s .1)

@@ -6,6 +6,7 @@ ghost use Rattle.block.specs.Records.{blockMeans, hashMeans, headerMeans};
 ghost use Rattle.holdings.specs.Calls.{Within};
 ghost use Rattle.holdings.specs.Seats.{Below, Known, Roomy, Seats};
 ghost use Rattle.memory.specs.Layout.{Laid};
+ghost use Rattle.memory.specs.Words.{word};
 ghost use Rattle.model.specs.Holding.{answerOf};
 ghost use Rattle.model.specs.Numbers as numbers;
 ghost use Rattle.model.specs.Numbers.{clashes};
@@ -185,4 +186,58 @@ pub fn put(mem: &mut [u64], store: u64, b: Block) -> Done
         return Done::Refused(Refusal::Room);
     }
     put_in(mem, n, store, b)
+}
+
+// ---- loads ----
+
+fn load_old(mem: &mut [u64], n: usize, p: usize, store: u64, b: Block)
+    requires { ⌜ Laid (now mem) n × (p < n) ⌝ }
+    ensures { λ _. ⌜ (word (now (mem .entry)) 6 ≡ 1 → store ≤ 2 → (SoundAt (now (mem .entry)) n → Known (blockMeans b) (viewAt (now (mem .entry)) n) p) → Within (numbers.load store (blockMeans b)) (now (mem .entry)) (now (mem .exit)) n 0) ⌝ }
+{
+    places::replace(mem, n, p, store, b.copy);
+    mem[7] = 0;
+}
+
+fn load_new(mem: &mut [u64], n: usize, p: usize, store: u64, b: Block)
+    requires { ⌜ Laid (now mem) n × (p < n) ⌝ }
+    ensures { λ _. ⌜ (word (now (mem .entry)) 6 ≡ 1 → store ≤ 2 → (SoundAt (now (mem .entry)) n → Roomy (blockMeans b) (viewAt (now (mem .entry)) n) p) → Within (numbers.load store (blockMeans b)) (now (mem .entry)) (now (mem .exit)) n 0) ⌝ }
+{
+    places::admit(mem, n, p, store, b.header, b.copy);
+    mem[7] = 0;
+}
+
+fn load_in(mem: &mut [u64], n: usize, store: u64, b: Block) -> Done
+    requires { ⌜ Laid (now mem) n ⌝ }
+    ensures { λ r. ⌜ Within (numbers.load store (blockMeans b)) (now (mem .entry)) (now (mem .exit)) n (doneNumber r) ⌝ }
+{
+    if mem[6] != 1 {
+        return Done::Refused(Refusal::Loaded);
+    }
+    if 2 < store {
+        return Done::Refused(Refusal::Kind);
+    }
+    match seat(mem, n, b.header) {
+        Seated::No(x) => {
+            return Done::Refused(x);
+        }
+        Seated::Old(p) => {
+            load_old(mem, n, p, store, b);
+            return Done::Done;
+        }
+        Seated::New(p) => {
+            load_new(mem, n, p, store, b);
+            return Done::Done;
+        }
+    }
+}
+
+// A record goes in as by a put, without a touch, while loads are still taken.
+pub fn load(mem: &mut [u64], store: u64, b: Block) -> Done
+    ensures { λ r. ⌜ moves.Done (numbers.load store (blockMeans b)) (now (mem .entry)) (now (mem .exit)) (doneNumber r) ⌝ }
+{
+    let n = memory::room(mem);
+    if n == 0 {
+        return Done::Refused(Refusal::Room);
+    }
+    load_in(mem, n, store, b)
 }
