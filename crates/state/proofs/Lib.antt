@@ -3,4 +3,5 @@ pub mod ViewLaws
 pub mod SoundLaws
 pub mod FindLaws
 pub mod RowSteps
+pub mod HeadSteps
 pub mod TouchSteps
