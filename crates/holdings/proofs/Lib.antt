@@ -1,4 +1,5 @@
--- The laws of the calls on the holdings: inside the room, and where a record goes.
+-- The laws of the calls on the holdings: inside the room, where a record goes, and the questions.
 pub mod CallLaws
 pub mod StaleSteps
 pub mod PutLaws
+pub mod AskLaws

@@ -1,8 +1,9 @@
 // The calls on the holdings (document 01, "Holding blocks", "Numbers given back"): each reads the room from the head, and works inside of it.
 ghost use mathlib.Core.Path.{_≡_};
 ghost use Prim.Native.Nat.{_≤_, _<_};
-ghost use Rattle.block.specs.Answers.{doneNumber};
+ghost use Rattle.block.specs.Answers.{countedNumber, countedReply, doneNumber};
 ghost use Rattle.block.specs.Records.{blockMeans, hashMeans, headerMeans};
+ghost use Rattle.holdings.specs.Asked.{Asked};
 ghost use Rattle.holdings.specs.Calls.{Within};
 ghost use Rattle.holdings.specs.Seats.{Below, Known, Roomy, Seats};
 ghost use Rattle.memory.specs.Layout.{Laid};
@@ -10,11 +11,13 @@ ghost use Rattle.memory.specs.Words.{word};
 ghost use Rattle.model.specs.Holding.{answerOf};
 ghost use Rattle.model.specs.Numbers as numbers;
 ghost use Rattle.model.specs.Numbers.{clashes};
+ghost use Rattle.model.specs.Questions.{effectiveCountQ, generationQ, versionQ};
 ghost use Rattle.model.specs.Record.{Block as Stored};
 ghost use Rattle.state.specs.Moves as moves;
 ghost use Rattle.state.specs.Sound.{SoundAt};
 ghost use Rattle.state.specs.View.{viewAt};
 use block::Block;
+use block::Counted;
 use block::Done;
 use block::Header;
 use block::Refusal;
@@ -240,4 +243,34 @@ pub fn load(mem: &mut [u64], store: u64, b: Block) -> Done
         return Done::Refused(Refusal::Room);
     }
     load_in(mem, n, store, b)
+}
+
+// ---- questions ----
+
+pub fn generation(mem: &[u64]) -> Counted
+    ensures { λ r. ⌜ Asked generationQ (now (mem .entry)) (countedNumber r) (countedReply r) ⌝ }
+{
+    if memory::room(mem) == 0 {
+        return Counted::Refused(Refusal::Room);
+    }
+    Counted::Count(mem[2])
+}
+
+pub fn version(mem: &[u64]) -> Counted
+    ensures { λ r. ⌜ Asked versionQ (now (mem .entry)) (countedNumber r) (countedReply r) ⌝ }
+{
+    if memory::room(mem) == 0 {
+        return Counted::Refused(Refusal::Room);
+    }
+    Counted::Count(mem[3])
+}
+
+// How many hashes have an effective record.
+pub fn effective_count(mem: &[u64]) -> Counted
+    ensures { λ r. ⌜ Asked effectiveCountQ (now (mem .entry)) (countedNumber r) (countedReply r) ⌝ }
+{
+    if memory::room(mem) == 0 {
+        return Counted::Refused(Refusal::Room);
+    }
+    Counted::Count(mem[11])
 }

@@ -1,0 +1,35 @@
+-- The questions about the holdings that a word of the head answers.
+use mathlib.Core.Path.{_≡_, refl, sym, ap, _∙_}
+use mathlib.Core.List.{List}
+use Prim.Native.Nat.{ℕ, _≤_, _<_}
+use native.Mathlib.Omega.{arith}
+use lib.Dec.{ltb}
+use Rattle.amount.specs.Choose.{_if_else_}
+use Rattle.model.specs.Questions.{HoldingsQuestion, effectiveCountQ, generationQ, versionQ, Reply, counted, holdingsReply, holdingsLent, tooShort}
+use Rattle.model.specs.Numbers.{askHoldings}
+use Rattle.memory.specs.Words.{word}
+use Rattle.memory.specs.Layout.{Laid}
+use Rattle.state.specs.View.{view, viewAt}
+use Rattle.state.specs.Sound.{Sound}
+use Rattle.holdings.specs.Asked.{Asked}
+
+-- a memory that is not laid out is not sound
+pub asks-nowhere : (q : HoldingsQuestion) (m : List ℕ) (n r : ℕ) (y : Reply) → (Laid m (word m 0) → n ≡ word m 0) → n ≡ 0 → Asked q m r y
+asks-nowhere q m n r y e z = record { number-is = λ s. never s; reply-is = λ s. never s }
+  where
+    never : {A : Type 0} → Sound m → A
+    never s = let i = e (s .laid) in let o = s .laid .some in absurd (omega arith)
+
+counts : (q : HoldingsQuestion) (m : List ℕ) (w : ℕ) → (Sound m → counted w ≡ holdingsReply (view m .holdings) q) → Asked q m 0 (counted w)
+counts q m w f = record { number-is = λ s. ap (λ (y : Reply). 13 if tooShort (holdingsLent q) y else 0) (f s); reply-is = f }
+
+pub asks-generation : (m : List ℕ) → Asked generationQ m 0 (counted (word m 2))
+unfolding viewAt
+asks-generation m = counts generationQ m (word m 2) (λ s. refl)
+
+pub asks-version : (m : List ℕ) → Asked versionQ m 0 (counted (word m 3))
+unfolding viewAt
+asks-version m = counts versionQ m (word m 3) (λ s. refl)
+
+pub asks-effective-count : (m : List ℕ) → Asked effectiveCountQ m 0 (counted (word m 11))
+asks-effective-count m = counts effectiveCountQ m (word m 11) (λ s. ap counted (s .effective))
