@@ -14,6 +14,7 @@ use Rattle.hash.proofs.HashLaws.{Words, same-join}
 use Rattle.block.specs.Words.{quad}
 use Rattle.memory.specs.Words.{word, seg}
 use Rattle.memory.specs.Layout.{ring, byTouch}
+use Rattle.memory.proofs.HashWords.{seg-hash}
 use Rattle.memory.proofs.WordLaws.{seg-same, seg-quad}
 use Rattle.index.specs.Keys.{keyAt}
 use Rattle.index.proofs.ListFacts.{below-or}
@@ -32,21 +33,7 @@ joined-quad a b c d = refl
 -- four words have the number of another four only if they are these
 pub seg-joined : (m : List ℕ) (at a b c d : ℕ) → ((i : ℕ) → word m i < limb) → Words a b c d → joined (seg m at 4) ≡ join a b c d → seg m at 4 ≡ quad a b c d
 unfolding joined
-seg-joined m at a b c d wide w e =
-    let a′ = word m (at + 0) in
-    let b′ = word m (at + 1) in
-    let c′ = word m (at + 2) in
-    let d′ = word m (at + 3) in
-    let w′ : Words a′ b′ c′ d′ = record { first = wide (at + 0); second = wide (at + 1); third = wide (at + 2); fourth = wide (at + 3) } in
-    let t : (eqb a′ a && (eqb b′ b && (eqb c′ c && (eqb d′ d && true)))) ≡ true = same-join a′ b′ c′ d′ a b c d w′ w ∙ eq-eqb (join a′ b′ c′ d′) (join a b c d) e in
-    let t₁ = and-right (eqb a′ a) (eqb b′ b && (eqb c′ c && (eqb d′ d && true))) t in
-    let t₂ = and-right (eqb b′ b) (eqb c′ c && (eqb d′ d && true)) t₁ in
-    let t₃ = and-right (eqb c′ c) (eqb d′ d && true) t₂ in
-    seg-quad m at a b c d
-    (ap (word m) (omega arith) ∙ eqb-true a′ a (and-left (eqb a′ a) (eqb b′ b && (eqb c′ c && (eqb d′ d && true))) t))
-    (eqb-true b′ b (and-left (eqb b′ b) (eqb c′ c && (eqb d′ d && true)) t₁))
-    (eqb-true c′ c (and-left (eqb c′ c) (eqb d′ d && true) t₂))
-    (eqb-true d′ d (and-left (eqb d′ d) true t₃))
+seg-joined m at a b c d wide w e = seg-hash m at a b c d wide w e
 
 -- ---- last touches ----
 
