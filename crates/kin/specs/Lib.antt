@@ -1,0 +1,2 @@
+-- Linked children and leaves.
+pub mod Kin
