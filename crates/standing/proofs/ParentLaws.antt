@@ -43,9 +43,9 @@ module _ (h : Holdings) (distinct : Distinct h) (p : ℕ) (c : Held) (is : h .ce
   parent-nowhere e =
       byOption (first test (h .room)) (λ z. z)
       (λ q z.
-        let k : (test q ≡ true) × (q < h .room) = first-some test (h .room) q z in
-        no-both (hasRoom (c .header .prev) (h .cells q)) (named-room q (and-left (names (h .cells p) (h .cells q)) (isLive (h .cells q)) (k .0)))
-        (first-none (λ q. hasRoom (c .header .prev) (h .cells q)) (h .room) q e (k .1)))
+      let k : (test q ≡ true) × (q < h .room) = first-some test (h .room) q z in
+      no-both (hasRoom (c .header .prev) (h .cells q)) (named-room q (and-left (names (h .cells p) (h .cells q)) (isLive (h .cells q)) (k .0)))
+      (first-none (λ q. hasRoom (c .header .prev) (h .cells q)) (h .room) q e (k .1)))
     where
       test : ℕ → Bool
       test r = names (h .cells p) (h .cells r) && isLive (h .cells r)
