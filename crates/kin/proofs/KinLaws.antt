@@ -17,6 +17,9 @@ use Rattle.contest.specs.Keys.{enters}
 use Rattle.contest.proofs.KeyLaws.{enters-yes, enters-no}
 use Rattle.roster.specs.Roster.{memberAt, sizeAt}
 use Rattle.roster.specs.Writes.{Added, Dropped}
+use Rattle.standing.specs.Values.{Written}
+use Rattle.standing.specs.declared.Value.{Value}
+use Rattle.state.proofs.SoundLaws.{laid-same}
 use Rattle.kin.specs.Kin.{linkedAt, upAt, kidsAt, Leaves, isListed, leafAt, kinOf, Lowered, Raised, Judged}
 
 -- ---- whose child ----
@@ -85,3 +88,21 @@ module _ (m : List ℕ) (n x : ℕ) where
 
     pub judged-leaf : x < n → Added m m′ n (leavesAt n) 14 130 x → (word m (row x + 56) ≡ 0 → ⊥) → kidsAt m x ≡ 0 → Judged m m′ n x
     judged-leaf l a e f = record { only = λ i y z h. a .within i y (λ b c. z b (omega arith)) (λ e. h x l (omega arith)); long = a .long; well = a .well; is = λ w l. a .now-in w ∙ sym (leaf-is e f); others = a .others }
+
+-- ---- the layout stays ----
+
+module _ {m m′ : List ℕ} {n : ℕ} (laid : Laid m n) where
+  pub lowered-laid : {u : ℕ} → Lowered m m′ n u → Laid m′ n
+  lowered-laid s = laid-same m m′ n laid (s .only 0 (λ l e. omega arith)) (s .only 1 (λ l e. omega arith)) (s .long)
+
+  pub raised-laid : {u : ℕ} → Raised m m′ n u → Laid m′ n
+  raised-laid s = laid-same m m′ n laid (s .only 0 (λ l e. omega arith)) (s .only 1 (λ l e. omega arith)) (s .long)
+
+  pub judged-laid : {x : ℕ} → Judged m m′ n x → Laid m′ n
+  judged-laid s = laid-same m m′ n laid (s .only 0 (λ e. omega arith) (λ x y. omega arith) (λ y l e. omega arith)) (s .only 1 (λ e. omega arith) (λ x y. omega arith) (λ y l e. omega arith)) (s .long)
+
+  pub written-laid : {at : ℕ} {v : Value} → 64 ≤ at → Written m m′ at v → Laid m′ n
+  written-laid h s = laid-same m m′ n laid (s .only 0 (λ x y. omega arith)) (s .only 1 (λ x y. omega arith)) (s .long)
+
+  pub stored-laid : {a v : ℕ} → 64 ≤ a → Stored m m′ a v → Laid m′ n
+  stored-laid h s = laid-same m m′ n laid (stored-other s 0 (λ e. omega arith)) (stored-other s 1 (λ e. omega arith)) (stored-long s)

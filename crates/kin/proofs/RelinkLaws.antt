@@ -13,9 +13,9 @@ use Rattle.model.specs.Places.{sum, count, putAt}
 use Rattle.model.specs.Numbers.{maxWord}
 use Rattle.model.proofs.Tools.{byBool}
 use Rattle.model.proofs.Sums.{count-put, count-below}
-use Rattle.memory.specs.Words.{word, Only, Stored}
+use Rattle.memory.specs.Words.{word, seg, Only, Stored}
 use Rattle.memory.specs.Layout.{row, byHash, nodes, leavesAt, vacantAt, Laid}
-use Rattle.memory.proofs.WordLaws.{stored-same, stored-other, stored-long}
+use Rattle.memory.proofs.WordLaws.{stored-same, stored-other, stored-long, seg-same}
 use Rattle.contest.specs.Tree.{WF}
 use Rattle.contest.specs.Keys.{enters, mark}
 use Rattle.contest.specs.Contests as contest
@@ -24,6 +24,10 @@ use Rattle.contest.proofs.KeyLaws.{Keys, row-keys, enters-kept}
 use Rattle.contest.proofs.Uses.{SameBut, again}
 use Rattle.roster.proofs.RosterLaws.{roster-same, roster-frame}
 use Rattle.state.proofs.RowSteps.{count-at}
+use Rattle.rows.specs.Rows.{valueOf}
+use Rattle.standing.specs.Values.{valueMeans}
+use Rattle.standing.specs.declared.Value.{Value}
+use Rattle.kin.specs.Relinked.{KinOnly, Relinked}
 use Rattle.kin.specs.Kin.{linkedAt, upAt, kidsAt, Leaves, isListed, leafAt, Kin, kinOf, Lowered, Raised, Judged}
 
 pub count-agree : (f g : ℕ → Bool) (n : ℕ) → ((q : ℕ) → q < n → f q ≡ g q) → count f n ≡ count g n
@@ -84,7 +88,7 @@ module _ (m m₁ m₂ m₃ m₄ m₅ m₆ m₇ m₈ : List ℕ) (n p q u w : ℕ
   kin-later : kinOf m₈ n p ≡ w
   kin-later =
       let e : upAt m₈ p ≡ upAt m₃ p =
-          late (row p + 67) (λ i j. omega arith) (λ i. omega arith) (λ i j. omega arith) (λ x i e. omega arith) ∙ s₄ .only (row p + 67) (λ l e. omega arith) in
+      late (row p + 67) (λ i j. omega arith) (λ i. omega arith) (λ i j. omega arith) (λ x i e. omega arith) ∙ s₄ .only (row p + 67) (λ l e. omega arith) in
       rw (linked-later, e) (sym is)
 
   linked-other : (y : ℕ) → y < n → (y ≡ p → ⊥) → linkedAt m₈ y ≡ linkedAt m y
@@ -246,3 +250,24 @@ module _ (m m₁ m₂ m₃ m₄ m₅ m₆ m₇ m₈ : List ℕ) (n p q u w : ℕ
           canonical = λ a. absurd (omega (arith, a));
         };
       }
+
+  -- ---- all of it ----
+
+  pub relink-only : KinOnly m m₈ n p
+  relink-only = record {
+    long = relink-long;
+    head = λ a h e. relink-passes a (λ i j. omega arith) e (λ i j. omega arith) (λ y i f. omega arith) (λ y i f. omega arith) (λ i j. omega arith) (λ f. omega arith);
+    rows = relink-rows;
+    indexes = λ a x y. relink-passes a (λ i j. omega arith) (λ e. omega arith) (λ i j. omega arith) (λ y i f. omega arith) (λ y i f. omega arith) (λ i j. omega arith) (λ f. omega arith);
+    contests = λ a x y. relink-passes a (λ i j. omega arith) (λ e. omega arith) (λ i j. omega arith) (λ y i f. omega arith) (λ y i f. omega arith) (λ i j. omega arith) (λ f. omega arith);
+    rest = λ a x. relink-passes a (λ i j. omega arith) (λ e. omega arith) (λ i j. omega arith) (λ y i f. omega arith) (λ y i f. omega arith) (λ i j. omega arith) (λ f. omega arith);
+  }
+
+  pub relink-done : (v : Value) → valueOf (seg m₂ (row p + 56) 3) ≡ valueMeans v → Relinked m m₈ n p q v
+  relink-done v e = record {
+    only = relink-only;
+    value = ap valueOf (seg-same m₂ m₈ (row p + 56) 3 relink-value) ∙ e;
+    up = relink-up;
+    kin = relink-kin;
+    ranks = relink-ranks;
+  }

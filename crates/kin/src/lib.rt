@@ -2,8 +2,10 @@
 // places are leaves, and the contest for the best.
 ghost use Prim.Native.Nat.{_+_, _*_, _<_, _≤_};
 ghost use Rattle.kin.specs.Kin.{Judged, Lowered, Raised, kinOf};
+ghost use Rattle.kin.specs.Relinked.{Relinked};
 ghost use Rattle.memory.specs.Layout.{Laid};
 ghost use mathlib.Core.Path.{_≡_};
+use standing::Value;
 
 // The place that p is a linked child of, or n.
 fn kin_of(mem: &[u64], n: usize, p: usize) -> usize
@@ -67,4 +69,21 @@ fn judge(mem: &mut [u64], n: usize, x: usize)
         return;
     }
     roster::add(mem, n, 64 + 79 * n, 14, 130, x);
+}
+
+// Place p gets the linked value v, with its parent at place q, if that is one.
+pub fn relink(mem: &mut [u64], n: usize, p: usize, q: usize, v: Value)
+    requires { ⌜ Laid (now mem) n × (p < n) ⌝ }
+    ensures { λ _. ⌜ Relinked (now (mem .entry)) (now (mem .exit)) n p q v ⌝ }
+{
+    let was = kin_of(mem, n, p);
+    lower(mem, n, was);
+    standing::write(mem, 64 + 68 * p + 56, v);
+    mem[64 + 68 * p + 67] = q as u64;
+    let is = kin_of(mem, n, p);
+    raise(mem, n, is);
+    judge(mem, n, was);
+    judge(mem, n, is);
+    judge(mem, n, p);
+    contest::update(mem, n, 0, p);
 }
