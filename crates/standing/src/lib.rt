@@ -217,9 +217,7 @@ fn on_parent(met: bool, actual: Amount, below: Value) -> Value
             return Value::None;
         }
         Value::Linked(work, ok) => match amount::add(work, actual) {
-            Sum::TooLarge => {
-                return Value::None;
-            }
+            Sum::TooLarge => return Value::None,
             Sum::Fits(sum) => {
                 return Value::Linked(sum, ok && met);
             }
