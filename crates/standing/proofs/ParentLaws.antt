@@ -1,6 +1,6 @@
 -- The parent by the index of hashes (document 01, "Standing in the tree"): the place that the previous hash has, if its index is one less and it is live.
 use mathlib.Core.Path.{_≡_, refl, sym, ap, _∙_}
-use mathlib.Core.Bool.{Bool, true, false, cond, _&&_}
+use mathlib.Core.Bool.{Bool, true, false, _&&_}
 use mathlib.Core.List.{List}
 use mathlib.Core.Option.{Option, none, some}
 use Prim.Native.Nat.{ℕ, suc, _+_, _≤_, _<_}
@@ -14,7 +14,7 @@ use Rattle.memory.specs.Layout.{row}
 use Rattle.model.specs.Places.{first}
 use Rattle.model.specs.Holding.{Held, Cell, free, held, Holdings, hasRoom, isLive, placeOf}
 use Rattle.model.specs.Standing.{names, parent}
-use Rattle.model.proofs.Tools.{byBool, byOption, no-both, and-left, and-right, first-some, first-none, first-only, first-nowhere}
+use Rattle.model.proofs.Tools.{byBool, byOption, no-both, and-left, first-some, first-none, first-only, first-nowhere}
 use Rattle.model.proofs.Parent.{Distinct}
 use Rattle.rows.specs.Rows.{headerAt, heldAt}
 use Rattle.state.specs.View.{cellsOf, viewAt}

@@ -1,8 +1,8 @@
 -- Laws of a linked value: its three words, and tests of amounts, over plain words and numbers.
 use mathlib.Core.Path.{_≡_, refl, sym, ap, _∙_}
-use mathlib.Core.Bool.{Bool, true, false, cond, not, _&&_, Bool·beq}
+use mathlib.Core.Bool.{Bool, true, false, _&&_, Bool·beq}
 use mathlib.Core.List.{List}
-use Prim.Native.Nat.{ℕ, suc, _+_, _-_, _≤_, _<_}
+use Prim.Native.Nat.{ℕ, suc, _+_, _-_, _≤_}
 use native.Mathlib.Omega.{arith}
 use lib.Dec.{eqb, ltb, leb}
 use lib.ListN.{length}
@@ -63,10 +63,6 @@ module _ (m m₁ m₂ m₃ : List ℕ) (at k x y : ℕ) (w : Amount) (ok : Bool)
 pub beq-true : (t : Bool) → t ≡ Bool·beq true t
 beq-true true = refl
 beq-true false = refl
-
-pub beq-false : (t : Bool) → not t ≡ Bool·beq false t
-beq-false true = refl
-beq-false false = refl
 
 pub no-less : (j i : ℕ) → i ≡ 0 → false ≡ eqb (suc j) i
 no-less j i e = sym (ne-eqb (suc j) i (λ z. omega arith))

@@ -1,14 +1,13 @@
 -- Working a place out (document 01, "Standing in the tree"): which blocks may be linked, the rule above index 0, and the value by the header read.
 use mathlib.Core.Path.{_≡_, refl, sym, ap, _∙_}
-use mathlib.Core.Bool.{Bool, true, false, cond, _&&_}
+use mathlib.Core.Bool.{Bool, true, false, _&&_}
 use mathlib.Core.List.{List}
-use mathlib.Core.Option.{Option, none, some}
+use mathlib.Core.Option.{Option}
 use Prim.Native.Nat.{ℕ, zero, suc, _+_, _≤_, _<_}
 use native.Mathlib.Omega.{arith}
 use lib.Dec.{eqb, ltb}
 use borrow.Author.Tests.{eqb-true, eqb-false, ne-eqb, le-ltb, lt-ltb}
-use Rattle.amount.specs.Choose.{_if_else_}
-use Rattle.amount.specs.Amounts.{Amount, readable, unreadable, limit}
+use Rattle.amount.specs.Amounts.{readable, limit}
 use Rattle.memory.specs.Words.{word, seg}
 use Rattle.memory.specs.Layout.{row}
 use Rattle.model.specs.Record.{Header}
@@ -19,7 +18,7 @@ use Rattle.model.proofs.Tools.{byBool, no-both}
 use Rattle.rows.specs.Rows.{headerAt, heldAt, valueOf}
 use Rattle.state.specs.View.{cellsOf, valuesOf, viewAt}
 use Rattle.state.specs.Sound.{Used, placed}
-use Rattle.state.proofs.FindLaws.{placed-in, placed-out, used-is, free-is}
+use Rattle.state.proofs.FindLaws.{placed-out, used-is, free-is}
 use Rattle.standing.specs.Work.{mayStand}
 
 -- ---- who may be linked ----
@@ -78,9 +77,9 @@ module _ (m : List ℕ) (n p : ℕ) (below : p < n) where
     work-barred e = barred w (valueAt (valuesOf m n w) (placed n q)) e ∙ stands
 
     pub work-done : mayStand w (cellsOf m n p) ≡ true → (b : Header) → b ≡ headerAt m (row p + 4) → (v : Value) → v ≡ valueAt (valuesOf m n w) (placed n q)
-        → onActual b v (b .actual) ≡ workOut (viewAt m n .holdings) (valuesOf m n) w p
-    work-done e b f v g =
-        ap (λ (b : Header). onActual b v (b .actual)) f ∙ ap (λ (v : Value). onActual (headerAt m (row p + 4)) v (headerAt m (row p + 4) .actual)) g
+        → (x : Value) → x ≡ onActual b v (b .actual) → x ≡ workOut (viewAt m n .holdings) (valuesOf m n) w p
+    work-done e b f v g x h =
+        h ∙ ap (λ (b : Header). onActual b v (b .actual)) f ∙ ap (λ (v : Value). onActual (headerAt m (row p + 4)) v (headerAt m (row p + 4) .actual)) g
         ∙ allowed w (valueAt (valuesOf m n w) (placed n q)) e ∙ stands
 
 -- ---- the value below ----

@@ -6,7 +6,7 @@ use Prim.Native.Nat.{ℕ, _+_}
 use lib.ListN.{length}
 use Rattle.amount.specs.Value.{value}
 use Rattle.model.specs.Standing as model
-use Rattle.memory.specs.Words.{word, seg, Only}
+use Rattle.memory.specs.Words.{seg, Only}
 use Rattle.rows.specs.Rows.{valueOf}
 use Rattle.standing.specs.declared.Value.{Value}
 use Rattle.standing.specs.declared.Value.the-variants.{None, Linked}

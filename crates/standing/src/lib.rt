@@ -2,7 +2,7 @@
 // rule over two spines; `canonical` says which is meant.
 ghost use mathlib.Core.Bool.{Bool·beq, _&&_};
 ghost use mathlib.Core.Path.{_≡_};
-ghost use Prim.Native.Nat.{ℕ, suc, _+_, _≤_, _<_};
+ghost use Prim.Native.Nat.{suc, _+_, _≤_, _<_};
 ghost use lib.Dec.{eqb, ltb, leb};
 ghost use lib.ListN.{length};
 ghost use Rattle.amount.specs.Choose.{_if_else_};
@@ -217,9 +217,7 @@ fn on_parent(met: bool, actual: Amount, below: Value) -> Value
             return Value::None;
         }
         Value::Linked(work, ok) => match amount::add(work, actual) {
-            Sum::TooLarge => {
-                return Value::None;
-            }
+            Sum::TooLarge => return Value::None,
             Sum::Fits(sum) => {
                 return Value::Linked(sum, ok && met);
             }

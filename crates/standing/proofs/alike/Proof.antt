@@ -1,5 +1,5 @@
 -- `standing::alike` meets its contract.
-use Rattle.standing.proofs.ValueLaws.{beq-true, beq-false}
+use Rattle.standing.proofs.ValueLaws.{beq-true}
 use borrow.Author.Needs.{needs}
 use Rattle.standing.proofs.alike.Statement.{statement}
 use Rattle.standing.proofs.alike.Tie as tie

@@ -1,6 +1,5 @@
 -- `standing::below_at` meets its contract.
-use mathlib.Core.Path.{_≡_, refl, sym, ap, _∙_}
-use native.Mathlib.Omega.{arith}
+use mathlib.Core.Path.{_∙_}
 use denote.Ref.{now}
 use Rattle.standing.specs.Values.{spineOf}
 use Rattle.standing.proofs.WorkLaws.{below-none, below-winner, below-canonical}

@@ -1,5 +1,5 @@
 -- `standing::on_actual` meets its contract.
-use mathlib.Core.Path.{_≡_, refl, sym, ap, _∙_}
+use mathlib.Core.Path.{_∙_}
 use Rattle.amount.specs.Value.{value}
 use Rattle.standing.specs.Values.{valueMeans}
 use Rattle.standing.proofs.WorkLaws.{actual-root, actual-above}

@@ -1,5 +1,4 @@
 -- `standing::on_parent` meets its contract.
-use mathlib.Core.Path.{_≡_, refl, sym, ap, _∙_}
 use Rattle.amount.specs.Value.{value}
 use Prim.Native.Nat.{_+_}
 use Rattle.amount.proofs.Promises.{on-fits, on-too-large}

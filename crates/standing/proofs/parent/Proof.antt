@@ -1,5 +1,5 @@
 -- `standing::parent` meets its contract: the place that the index has for the previous hash, if its index is one less and it is live.
-use mathlib.Core.Path.{_≡_, refl, sym, ap, _∙_}
+use mathlib.Core.Path.{sym, _∙_}
 use native.Mathlib.Omega.{arith}
 use denote.Ref.{now}
 use borrow.Author.Tests.{not-true, not-false}

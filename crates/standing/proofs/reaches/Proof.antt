@@ -1,5 +1,4 @@
 -- `standing::reaches` meets its contract. What `amount::compare` promises is two tests.
-use mathlib.Core.Path.{_≡_, refl, sym, ap, _∙_}
 use Rattle.amount.specs.Value.{value}
 use Rattle.amount.proofs.Promises.{on-less, on-equal, on-greater}
 use Rattle.standing.proofs.ValueLaws.{reached, unreached}

@@ -1,5 +1,5 @@
 -- `standing::read` meets its contract.
-use mathlib.Core.Path.{_≡_, refl, sym, ap, _∙_}
+use mathlib.Core.Path.{refl}
 use denote.Ref.{now}
 use Rattle.standing.proofs.ValueLaws.{value-none, value-some}
 use borrow.Author.Needs.{needs}

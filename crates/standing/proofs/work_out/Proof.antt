@@ -1,5 +1,5 @@
 -- `standing::work_out` meets its contract.
-use mathlib.Core.Path.{_≡_, refl, sym, ap, _∙_}
+use mathlib.Core.Path.{refl, sym, _∙_}
 use native.Mathlib.Omega.{arith}
 use denote.Ref.{now}
 use borrow.Author.Tests.{not-true, not-false}
@@ -14,7 +14,7 @@ returns : tie.Need-returns
 returns c = λ s e. let a = c .before .before .before .args in work-barred (now (a .mem)) (a .n) (a .p) (omega arith) (a .q) (spineOf (a .canonical)) e (sym (c .before .may .ensures) ∙ not-true _ (c .if1 .taken))
 
 returns-2 : tie.Need-returns-2
-returns-2 c = λ s e. let a = c .before .before .before .before .before .before .before .args in c .on-actual .ensures (headerMeans (c .before .before .before .read-header .result)) refl (sym (c .before .meets .ensures)) ∙ work-done (now (a .mem)) (a .n) (a .p) (omega arith) (a .q) (spineOf (a .canonical)) e (sym (c .before .before .before .before .before .may .ensures) ∙ not-false _ (c .before .before .before .before .if1 .left)) (headerMeans (c .before .before .before .read-header .result)) (c .before .before .before .read-header .ensures) (valueMeans (c .before .before .below-at .result)) (c .before .before .below-at .ensures)
+returns-2 c = λ s e. let a = c .before .before .before .before .before .before .before .args in work-done (now (a .mem)) (a .n) (a .p) (omega arith) (a .q) (spineOf (a .canonical)) e (sym (c .before .before .before .before .before .may .ensures) ∙ not-false _ (c .before .before .before .before .if1 .left)) (headerMeans (c .before .before .before .read-header .result)) (c .before .before .before .read-header .ensures) (valueMeans (c .before .before .below-at .result)) (c .before .before .below-at .ensures) _ (c .on-actual .ensures (headerMeans (c .before .before .before .read-header .result)) refl (sym (c .before .meets .ensures)))
 
 pub work-out-spec : {M : Type 1} → statement M
 work-out-spec =

@@ -1,5 +1,5 @@
 -- `standing::write` meets its contract: one store where there is none, three where it is linked.
-use mathlib.Core.Path.{_≡_, refl, sym, ap, _∙_}
+use mathlib.Core.Path.{refl}
 use native.Mathlib.Omega.{arith}
 use lib.ListN.{length-set}
 use Rattle.standing.proofs.ValueLaws.{none-written, linked-written}
