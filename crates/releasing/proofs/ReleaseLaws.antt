@@ -1,19 +1,18 @@
 -- The walk over the listed places: what holds after i of them, and that in the end no place has room for a hash that no store holds.
 use mathlib.Core.Path.{_≡_, refl, sym, ap, _∙_, subst, fun-ext}
-use mathlib.Core.Bool.{Bool, true, false}
+use mathlib.Core.Bool.{true, false}
 use mathlib.Core.List.{List}
-use Prim.Native.Nat.{ℕ, _+_, _*_, _≤_, _<_}
+use Prim.Native.Nat.{ℕ, _+_, _≤_, _<_}
 use native.Mathlib.Decide.{ℕ-discrete}
 use native.Mathlib.Omega.{arith}
 use lib.ListN.{length}
-use lib.Dec.{eqb, ltb}
-use borrow.Author.Tests.{eqb-true, eqb-false, eq-eqb}
-use Rattle.amount.specs.Choose.{_if_else_}
+use lib.Dec.{eqb}
+use borrow.Author.Tests.{eqb-true, eq-eqb}
 use Rattle.model.specs.Places.{putAt, count}
 use Rattle.model.specs.Holding.{Cell, free, held, isFree, isHeld, isLive, isCanonical, released}
 use Rattle.model.proofs.Tools.{byBool, no-both}
 use Rattle.memory.specs.Words.{word, Stored}
-use Rattle.memory.specs.Layout.{row, byHash, nodes, vacantAt, ring, Laid}
+use Rattle.memory.specs.Layout.{row, byHash, nodes, vacantAt, Laid}
 use Rattle.memory.proofs.WordLaws.{stored-other, stored-long}
 use Rattle.rows.specs.Rows.{cellAt}
 use Rattle.roster.specs.Roster.{sizeAt, memberAt, positionAt, Size, Member}
@@ -24,7 +23,7 @@ use Rattle.state.specs.Sound.{SoundAt, isListed}
 use Rattle.state.proofs.ViewLaws.{below-same, cell-same}
 use Rattle.state.proofs.SoundLaws.{Kept, laid-same, hashes-same, prevs-same, keys-same, free-same, journaled-same}
 use Rattle.state.proofs.FindLaws.{cell-used}
-use Rattle.releasing.specs.Vacates.{FreeOnly, Settles}
+use Rattle.releasing.specs.Vacates.{Settles}
 use Rattle.releasing.specs.Releases.{ReleaseOnly, Releases}
 use Rattle.releasing.proofs.VacateLaws.{free-laid, released-held, released-free, free-released}
 

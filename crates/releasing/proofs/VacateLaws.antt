@@ -4,21 +4,19 @@ use mathlib.Core.Bool.{Bool, true, false, cond}
 use mathlib.Core.List.{List}
 use mathlib.Core.Option.{Option, none, some}
 use Prim.Native.Nat.{ℕ, _+_, _*_, _≤_, _<_}
-use native.Mathlib.Decide.{ℕ-discrete}
 use native.Mathlib.Omega.{arith}
 use lib.ListN.{length}
-use lib.Dec.{eqb, ltb}
+use lib.Dec.{eqb}
 use borrow.Author.Tests.{eqb-true, eq-eqb, ne-eqb}
-use Rattle.amount.specs.Choose.{_if_else_}
 use Rattle.model.specs.Record.{Header, Copy}
 use Rattle.model.specs.Places.{putAt, isSome}
 use Rattle.model.specs.Holding.{Cell, free, held, isFree, isHeld, isLive, isCanonical, effective, copyIsLive, copyIsCanonical, released}
 use Rattle.model.specs.Numbers.{State}
 use Rattle.model.proofs.Tools.{byBool, no-both}
 use Rattle.memory.specs.Words.{word, Stored}
-use Rattle.memory.specs.Layout.{row, byHash, byPrev, nodes, vacantAt, ring, Laid}
+use Rattle.memory.specs.Layout.{row, byHash, byPrev, nodes, vacantAt, Laid}
 use Rattle.memory.proofs.WordLaws.{seg-same, stored-same, stored-other, stored-long}
-use Rattle.rows.specs.Rows.{heldAt, cellOf, cellAt}
+use Rattle.rows.specs.Rows.{cellOf, cellAt}
 use Rattle.index.specs.Index.{Keyed}
 use Rattle.index.specs.Keys.{keyAt}
 use Rattle.index.specs.Writes.{Unlinked}

@@ -5,7 +5,7 @@ use Prim.Native.Nat.{ℕ, _+_, _≤_, _<_}
 use lib.ListN.{length}
 use Rattle.model.specs.Holding.{released}
 use Rattle.memory.specs.Words.{word}
-use Rattle.memory.specs.Layout.{row, nodes, vacantAt, ring, Laid}
+use Rattle.memory.specs.Layout.{row, nodes, vacantAt, ring}
 use Rattle.state.specs.View.{cellsOf}
 use Rattle.state.specs.Sound.{SoundAt}
 

@@ -1,7 +1,5 @@
 -- `releasing::release` meets its contract: the loop has looked at the first i of the listed places.
 use Prim.Native.Nat.{_-_}
-use denote.Ref.{now}
-use native.Mathlib.Omega.{arith}
 use borrow.Author.Needs.{needs}
 use Rattle.releasing.proofs.ReleaseLaws.{Walked, walk-start, walk-more, walk-done}
 use Rattle.releasing.proofs.release.Statement.{statement}
