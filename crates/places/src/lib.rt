@@ -17,7 +17,7 @@ use block::Header;
 // ---- the effective copy of a row, and the counts ----
 
 // The state word of the effective copy of the row at `at`; 0 where there is none.
-fn status(mem: &[u64], at: usize) -> u64
+pub fn status(mem: &[u64], at: usize) -> u64
     requires { ⌜ at + 68 ≤ length (now mem) ⌝ }
     ensures { λ r. ⌜ Says (now (mem .entry)) at r ⌝ }
 {
