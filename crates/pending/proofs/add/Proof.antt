@@ -1,6 +1,7 @@
 -- `pending::add` meets its contract.
 use mathlib.Core.Path.{refl, _∙_}
 use native.Mathlib.Omega.{arith}
+use lib.ListN.{length-set}
 use Rattle.memory.proofs.WordLaws.{stored-long}
 use Rattle.pending.proofs.PendLaws.{add-stores, laid-stored}
 use borrow.Author.Needs.{needs}
@@ -8,7 +9,7 @@ use Rattle.pending.proofs.add.Statement.{statement}
 use Rattle.pending.proofs.add.Tie as tie
 
 slice-write-mem-2 : tie.Need-slice-write-mem-2
-slice-write-mem-2 c = ?
+slice-write-mem-2 c = simp length-set (omega arith)
 
 update-requires : tie.Need-update-requires
 update-requires c κs =

@@ -1,17 +1,12 @@
+-- `pending::first` meets its contract: the contest of turns has the place that is next at its root.
+use denote.Ref.{now}
+use Rattle.pending.proofs.NextLaws.{first-done}
 use borrow.Author.Needs.{needs}
 use Rattle.pending.proofs.first.Statement.{statement}
 use Rattle.pending.proofs.first.Tie as tie
-use Rattle.pending.proofs.first.Reads as reads
-use Rattle.pending.proofs.first.Lts as lts
-use Rattle.contest.proofs.best.Reads as best-reads
 
--- src/lib.rt:24:5
-best-requires : tie.Need-best-requires
-best-requires c κs = search needs
-
--- src/lib.rt:20:1
 returns : tie.Need-returns
-returns c = ?
+returns c = λ s pend a. first-done (now (c .before .before .args .mem)) _ _ (c .best .ensures (a .tree)) s pend a
 
 pub first-spec : {M : Type 1} → statement M
-first-spec = tie.close (tie.spec best-requires returns)
+first-spec = tie.close (tie.spec (λ c κs. search needs) returns)
