@@ -1,1 +1,61 @@
-// The turns of a sync (document 01, "Standing in the tree").
+// The turns of a sync (document 01, "Standing in the tree"): places are worked out by the values that stand, lowest index first, until none is
+// pending. All that the values decide, both bests, children and leaves, is kept in step inside the turn.
+ghost use Prim.Native.Nat.{_+_, _*_, _<_, _≤_};
+ghost use Rattle.memory.specs.Layout.{Laid};
+ghost use Rattle.relink.specs.Turned.{PutCanonical, PutWinner, Turned, WorksOut};
+use standing::Value;
+
+// ---- a turn ----
+
+// Stores the linked value of p, if it is another. Tells whether it was.
+fn put_winner(mem: &mut [u64], n: usize, p: usize, q: usize, v: Value) -> bool
+    requires { ⌜ Laid (now mem) n × (p < n) ⌝ }
+    ensures { λ r. ⌜ PutWinner (now (mem .entry)) (now (mem .exit)) n p q v r ⌝ }
+{
+    let old = standing::read(mem, 64 + 68 * p + 56);
+    if standing::same(old, v) {
+        return false;
+    }
+    kin::relink(mem, n, p, q, v);
+    true
+}
+
+// .. its canonical linked value.
+fn put_canonical(mem: &mut [u64], n: usize, p: usize, v: Value) -> bool
+    requires { ⌜ Laid (now mem) n × (p < n) ⌝ }
+    ensures { λ r. ⌜ PutCanonical (now (mem .entry)) (now (mem .exit)) n p v r ⌝ }
+{
+    let old = standing::read(mem, 64 + 68 * p + 60);
+    if standing::same(old, v) {
+        return false;
+    }
+    standing::write(mem, 64 + 68 * p + 60, v);
+    contest::update(mem, n, 1, p);
+    true
+}
+
+// Works both values of p out. Tells whether one changed.
+fn work_out(mem: &mut [u64], n: usize, p: usize) -> bool
+    requires { ⌜ Laid (now mem) n × (p < n) ⌝ }
+    ensures { λ r. ⌜ WorksOut (now (mem .entry)) (now (mem .exit)) n p r ⌝ }
+{
+    let q = standing::parent(mem, n, p);
+    let a = standing::work_out(mem, n, p, q, false);
+    let b = standing::work_out(mem, n, p, q, true);
+    let moved = put_winner(mem, n, p, q, a);
+    let shifted = put_canonical(mem, n, p, b);
+    if moved {
+        return true;
+    }
+    shifted
+}
+
+pub fn turn(mem: &mut [u64], n: usize, p: usize)
+    requires { ⌜ Laid (now mem) n × (p < n) ⌝ }
+    ensures { λ _. ⌜ Turned (now (mem .entry)) (now (mem .exit)) n p ⌝ }
+{
+    pending::drop(mem, n, p);
+    if work_out(mem, n, p) {
+        pending::follow(mem, n, p);
+    }
+}
