@@ -3,3 +3,4 @@ pub mod TreedLaws
 pub mod PutLaws
 pub mod WorkLaws
 pub mod TurnLaws
+pub mod SettleLaws

@@ -5,7 +5,7 @@ use mathlib.Core.List.{List}
 use mathlib.Core.Path.{_≡_}
 use Prim.Native.Nat.{ℕ, _+_, _≤_, _<_}
 use lib.ListN.{length}
-use Rattle.model.specs.Relink.{Pending, same, moves, worked, after}
+use Rattle.model.specs.Relink.{Pending, same, moves, worked, after, settled}
 use Rattle.memory.specs.Words.{word, seg}
 use Rattle.memory.specs.Layout.{row, byHash, nodes, leavesAt, vacantAt}
 use Rattle.contest.specs.Tree.{WF}
@@ -71,3 +71,14 @@ pub record AfterTurn (m m′ : List ℕ) (n p : ℕ) (pend : Pending) : Type 0 w
 pub record Turned (m m′ : List ℕ) (n p : ℕ) : Type 0 where
   pub only : TreeOnly m m′ n
   pub right : SoundAt m n → Treed m n → (pend : Pending) → Pends m n pend → pend p ≡ true → AfterTurn m m′ n p pend
+
+-- ---- all turns ----
+
+pub record Settled (m m′ : List ℕ) (n : ℕ) (pend : Pending) : Type 0 where
+  pub treed : Treed m′ n
+  pub values : valuesOf m′ n ≡ settled (viewAt m n .holdings) (valuesOf m n) pend
+  pub pends : Pends m′ n (λ q. false)
+
+pub record Settles (m m′ : List ℕ) (n : ℕ) : Type 0 where
+  pub only : TreeOnly m m′ n
+  pub right : SoundAt m n → Treed m n → (pend : Pending) → Pends m n pend → Settled m m′ n pend

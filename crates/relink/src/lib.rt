@@ -2,7 +2,7 @@
 // pending. All that the values decide, both bests, children and leaves, is kept in step inside the turn.
 ghost use Prim.Native.Nat.{_+_, _*_, _<_, _≤_};
 ghost use Rattle.memory.specs.Layout.{Laid};
-ghost use Rattle.relink.specs.Turned.{PutCanonical, PutWinner, Turned, WorksOut};
+ghost use Rattle.relink.specs.Turned.{PutCanonical, PutWinner, Settles, Turned, WorksOut};
 use standing::Value;
 
 // ---- a turn ----
@@ -57,5 +57,23 @@ pub fn turn(mem: &mut [u64], n: usize, p: usize)
     pending::drop(mem, n, p);
     if work_out(mem, n, p) {
         pending::follow(mem, n, p);
+    }
+}
+
+// ---- all turns ----
+
+// Turns, until no place is pending. (The count is more than a memory that calls left can take, and ends the loop on any other.)
+pub fn settle(mem: &mut [u64], n: usize)
+    requires { ⌜ Laid (now mem) n ⌝ }
+    ensures { λ _. ⌜ Settles (now (mem .entry)) (now (mem .exit)) n ⌝ }
+{
+    let mut left = n * n + n;
+    while 0 < left {
+        let p = pending::first(mem, n);
+        if n <= p {
+            return;
+        }
+        turn(mem, n, p);
+        left -= 1;
     }
 }
