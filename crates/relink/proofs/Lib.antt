@@ -4,3 +4,6 @@ pub mod PutLaws
 pub mod WorkLaws
 pub mod TurnLaws
 pub mod SettleLaws
+pub mod WipeLaws
+pub mod ResetLaws
+pub mod GatherLaws

@@ -2,7 +2,9 @@
 // pending. All that the values decide, both bests, children and leaves, is kept in step inside the turn.
 ghost use Prim.Native.Nat.{_+_, _*_, _<_, _≤_};
 ghost use Rattle.memory.specs.Layout.{Laid};
+ghost use Rattle.relink.specs.Gathers.{Gathers, Rebuilds, Resets, Wiped};
 ghost use Rattle.relink.specs.Turned.{PutCanonical, PutWinner, Settles, Turned, WorksOut};
+use journal::Had;
 use standing::Value;
 
 // ---- a turn ----
@@ -75,5 +77,63 @@ pub fn settle(mem: &mut [u64], n: usize)
         }
         turn(mem, n, p);
         left -= 1;
+    }
+}
+
+// ---- what is to be worked out ----
+
+// No row says that it has a value or children.
+fn wipe(mem: &mut [u64], n: usize)
+    requires { ⌜ Laid (now mem) n ⌝ }
+    ensures { λ _. ⌜ Wiped (now (mem .entry)) (now (mem .exit)) n ⌝ }
+{
+    let mut p = 0;
+    while p < n {
+        mem[64 + 68 * p + 56] = 0;
+        mem[64 + 68 * p + 60] = 0;
+        mem[64 + 68 * p + 64] = 0;
+        p += 1;
+    }
+}
+
+// There are no values, and so no leaf and no best.
+fn reset(mem: &mut [u64], n: usize)
+    requires { ⌜ Laid (now mem) n ⌝ }
+    ensures { λ _. ⌜ Resets (now (mem .entry)) (now (mem .exit)) n ⌝ }
+{
+    wipe(mem, n);
+    roster::clear(mem, 14);
+    contest::clear(mem, n, 0);
+    contest::clear(mem, n, 1);
+}
+
+// Every live block is pending, and there are no values.
+fn rebuild(mem: &mut [u64], n: usize)
+    requires { ⌜ Laid (now mem) n ⌝ }
+    ensures { λ _. ⌜ Rebuilds (now (mem .entry)) (now (mem .exit)) n ⌝ }
+{
+    reset(mem, n);
+    pending::add_live(mem, n);
+}
+
+// The hashes changed since the last sync are pending; where that is not to be had, all is built again.
+pub fn gather(mem: &mut [u64], n: usize)
+    requires { ⌜ Laid (now mem) n ⌝ }
+    ensures { λ _. ⌜ Gathers (now (mem .entry)) (now (mem .exit)) n ⌝ }
+{
+    if mem[8] == 0 {
+        rebuild(mem, n);
+        return;
+    }
+    let v = mem[10];
+    match journal::changes_had(mem, n, mem[9], v) {
+        Had::None => {
+            rebuild(mem, n);
+            return;
+        }
+        Had::Count(_) => {
+            pending::add_changed(mem, n, v);
+            return;
+        }
     }
 }
