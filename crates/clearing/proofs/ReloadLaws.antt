@@ -83,7 +83,8 @@ module _ (m : List ℕ) (g v : ℕ) where
   -- the memory is not laid out
   pub reload-nowhere : (Laid m (word m 0) → 0 ≡ word m 0) → Reloads g v m m 1
   reload-nowhere f = record {
-    done = record { refused = λ h. refl; right = λ s. let e = f (s .laid) in let l = s .laid .some in absurd (omega arith) };
+    refused = λ h. refl;
+    right = λ s. let e = f (s .laid) in let l = s .laid .some in absurd (omega arith);
     blank = λ z. absurd (omega arith);
   }
 
@@ -96,10 +97,8 @@ module _ (m : List ℕ) (g v : ℕ) where
     reload-early h =
         let z : 8 ≡ number (reload g v) (viewAt m n) = number-by false (le-ltb (word m 2) g h) in
         record {
-          done = record {
-            refused = λ x. refl;
-            right = λ s. right-at (reload g v) m m n 8 (laid .room) (laid .room) z (subst (SoundAt m) (laid .room) s) (left (reload g v) (viewAt m n) (λ y. omega arith));
-          };
+          refused = λ x. refl;
+          right = λ s. right-at (reload g v) m m n 8 (laid .room) (laid .room) z (subst (SoundAt m) (laid .room) s) (left (reload g v) (viewAt m n) (λ y. omega arith));
           blank = λ x. absurd (omega arith);
         }
 
@@ -107,9 +106,7 @@ module _ (m : List ℕ) (g v : ℕ) where
     reload-done m′ h d =
         let z : 0 ≡ number (reload g v) (viewAt m n) = number-by true (lt-ltb (word m 2) g h) in
         record {
-          done = record {
-            refused = λ x. absurd (x refl);
-            right = λ s. right-at (reload g v) m m′ n 0 (laid .room) (d .room) z (d .sound) (d .state ∙ accepted (reload g v) (viewAt m n) (sym z));
-          };
+          refused = λ x. absurd (x refl);
+          right = λ s. right-at (reload g v) m m′ n 0 (laid .room) (d .room) z (d .sound) (d .state ∙ accepted (reload g v) (viewAt m n) (sym z));
           blank = λ x. subst (Blank m′) (sym (d .room)) (d .blank);
         }

@@ -8,7 +8,7 @@ use Rattle.memory.specs.Words.{word}
 use Rattle.memory.specs.Layout.{need}
 use Rattle.state.specs.View.{view, viewAt}
 use Rattle.state.specs.Sound.{Sound, SoundAt}
-use Rattle.state.specs.Moves.{Done}
+use Rattle.state.specs.Moves.{Right}
 use Rattle.clearing.specs.Blank.{Blank}
 
 -- inside of a start that is accepted
@@ -33,6 +33,8 @@ pub record Starts (n j g v : ℕ) (m m′ : List ℕ) (r : ℕ) : Type 0 where
   pub state : r ≡ 0 → view m′ ≡ begin n j g v
   pub blank : r ≡ 0 → Blank m′ (word m′ 0)
 
+-- reload: a refusal leaves the memory; of a sound one, the number is the model's, and what is left is sound, empty and stands for the model's next state
 pub record Reloads (g v : ℕ) (m m′ : List ℕ) (r : ℕ) : Type 0 where
-  pub done : Done (reload g v) m m′ r
+  pub refused : (r ≡ 0 → ⊥) → m′ ≡ m
+  pub right : Sound m → Right (reload g v) m m′ r
   pub blank : r ≡ 0 → Blank m′ (word m′ 0)

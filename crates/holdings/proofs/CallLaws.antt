@@ -92,10 +92,11 @@ whole c m m′ n r e w = record {
         sound = subst (λ (z : ℕ). SoundAt m′ z) i′ (t .sound);
         state = subst (λ (z : ℕ). viewAt m′ z ≡ step c (viewAt m (word m 0))) i′ (subst (λ (z : ℕ). viewAt m′ n ≡ step c (viewAt m z)) i (t .state));
       };
+  apart = λ s. let i : n ≡ word m 0 = e (s .laid) in subst (Apart m m′) i (w .apart (subst (SoundAt m) (sym i) s));
 }
 
 pub no-room : (c : Call) (m : List ℕ) (n r : ℕ) → (Laid m (word m 0) → n ≡ word m 0) → n ≡ 0 → Done c m m r
-no-room c m n r e z = record { refused = λ _. refl; right = λ s. let i = e (s .laid) in let o = s .laid .some in absurd (omega arith) }
+no-room c m n r e z = record { refused = λ _. refl; right = λ s. let i = e (s .laid) in let o = s .laid .some in absurd (omega arith); apart = λ s. apart-same m (word m 0) }
 
 -- ---- places ----
 

@@ -34,12 +34,12 @@ module _ (m m′ : List ℕ) (n : ℕ) (laid : Laid m n) (st : Stored m m′ 7 0
 
   stale-sound : SoundAt m n → SoundAt m′ n
   stale-sound s =
-      head-sound m m′ n laid only (stored-long st) s
+      head-sound m m′ n laid (λ a f h. only a (λ x y. f (omega arith) (omega arith)) h) (stored-long st) s
       (journaled-same m m′ n (other 1 (λ z. omega arith)) (other 4 (λ z. omega arith)) (other 5 (λ z. omega arith)) late (s .journal))
 
   pub stale-moves : Moves m m′ n (Unit {0}) (stale (viewAt m n) (viewAt m n .holdings))
   stale-moves = record {
-    laid = head-laid m m′ n laid only (stored-long st);
+    laid = head-laid m m′ n laid (λ a f h. only a (λ x y. f (omega arith) (omega arith)) h) (stored-long st);
     right = λ s u. record { sound = stale-sound s; state = stale-view };
-    apart = λ s u. head-apart m m′ n laid only (stored-long st);
+    apart = λ s u. head-apart m m′ n laid (λ a f h. only a (λ x y. f (omega arith) (omega arith)) h) (stored-long st);
   }

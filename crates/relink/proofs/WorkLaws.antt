@@ -245,7 +245,7 @@ module _ (m m′ : List ℕ) (n p : ℕ) (v : Value) (r : Bool) (laid : Laid m n
 -- ---- where a linked place stands ----
 
 -- with no parent, only index 0 is linked
-root-linked : (c : Cell) → isLinked (standing winner c unlinked) ≡ true → indexOf c ≡ 0
+pub root-linked : (c : Cell) → isLinked (standing winner c unlinked) ≡ true → indexOf c ≡ 0
 unfolding standing
 root-linked free e = refl
 root-linked (held c) e = go (may winner c) (c .header .actual) e

@@ -28,7 +28,7 @@ module _ (m m′ : List ℕ) (n x : ℕ) (laid : Laid m n) (t : Touches m m′ n
 
   pub touch-moves : Moves m m′ n (viewAt m n .holdings .version ≡ maxWord → ⊥) (touched x (viewAt m n))
   touch-moves = record {
-    laid = head-laid m m′ n laid only (t .long);
-    right = λ s e. record { sound = head-sound m m′ n laid only (t .long) s (t .journaled (s .journal)); state = touch-view s e };
-    apart = λ s e. head-apart m m′ n laid only (t .long);
+    laid = head-laid m m′ n laid (λ a f h. only a (λ x y. f (omega arith) (omega arith)) h) (t .long);
+    right = λ s e. record { sound = head-sound m m′ n laid (λ a f h. only a (λ x y. f (omega arith) (omega arith)) h) (t .long) s (t .journaled (s .journal)); state = touch-view s e };
+    apart = λ s e. head-apart m m′ n laid (λ a f h. only a (λ x y. f (omega arith) (omega arith)) h) (t .long);
   }

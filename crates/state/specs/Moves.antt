@@ -36,7 +36,8 @@ pub record Moves (m m′ : List ℕ) (n : ℕ) (P : Type 0) (s : State) : Type 0
 abbrev pub withCell : State → ℕ → Cell → State
 withCell s p c = record { holdings = withCells (s .holdings) (putAt (s .holdings .cells) p c); values = s .values; synced = s .synced; fresh = s .fresh }
 
--- a public call: whatever the memory, a refusal leaves it; of a sound one, the number is the model's, and what is left is sound and stands for the model's next state
+-- a public call: whatever the memory, a refusal leaves it; of a sound one, the number is the model's, what is left is sound and stands for the
+-- model's next state, and what a sync keeps of the tree is as it was
 pub record Right (c : Call) (m m′ : List ℕ) (r : ℕ) : Type 0 where
   pub number-is : r ≡ number c (view m)
   pub sound : Sound m′
@@ -45,3 +46,4 @@ pub record Right (c : Call) (m m′ : List ℕ) (r : ℕ) : Type 0 where
 pub record Done (c : Call) (m m′ : List ℕ) (r : ℕ) : Type 0 where
   pub refused : (r ≡ 0 → ⊥) → m′ ≡ m
   pub right : Sound m → Right c m m′ r
+  pub apart : Sound m → Apart m m′ (word m 0)

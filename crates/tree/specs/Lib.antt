@@ -1,0 +1,2 @@
+-- What the calls promise of a whole memory.
+pub mod Calls
