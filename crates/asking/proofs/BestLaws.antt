@@ -133,7 +133,7 @@ module _ (m : List ℕ) (n : ℕ) (a : WholeAt m n) where
 
 -- ---- a block with its value ----
 
-plainBlock : Reply → Option Block
+abbrev plainBlock : Reply → Option Block
 plainBlock (shown b) = b
 plainBlock (worth v) = none
 plainBlock (tip b v) = none

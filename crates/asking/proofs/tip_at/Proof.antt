@@ -1,67 +1,54 @@
+-- `asking::tip_at` meets its contract.
+use mathlib.Core.Path.{_≡_, subst}
+use denote.Ref.{now}
+use Rattle.model.specs.Standing.{valueAt}
+use Rattle.model.specs.Questions.{shown, liveAt}
+use Rattle.block.specs.Answers.{shownReply}
+use Rattle.standing.specs.Values.{spineOf, valueMeans}
+use Rattle.state.specs.View.{valuesOf, viewAt}
+use Rattle.state.specs.Sound.{placed}
+use Rattle.asking.proofs.BestLaws.{tip-unlinked, tip-unshown, tip-shown}
 use borrow.Author.Needs.{needs}
 use Rattle.asking.proofs.tip_at.Statement.{statement}
 use Rattle.asking.proofs.tip_at.Tie as tie
-use Rattle.asking.proofs.tip_at.Reads as reads
-use Rattle.asking.proofs.tip_at.Lts as lts
-use Rattle.asking.proofs.show_live.Reads as show-live-reads
-use Rattle.asking.proofs.value_at.Reads as value-at-reads
 
--- src/lib.rt:155:11
-value-at-requires : tie.Need-value-at-requires
-value-at-requires c κs = search needs
-
--- src/lib.rt:157:13
-enum-told : tie.Need-enum-told
-enum-told c = search needs
-
--- src/lib.rt:157:13
 returns : tie.Need-returns
-returns c = ?
+returns c =
+    let a = c .before .before .before .before .args in
+    tip-unlinked (now (a .mem)) (a .n) (a .p) (spineOf (a .canonical))
+    (subst (λ k. valueMeans k ≡ valueAt (valuesOf (now (a .mem)) (a .n) (spineOf (a .canonical))) (placed (a .n) (a .p))) (c .enum-told .given .1) (c .before .before .value-at .ensures))
 
--- src/lib.rt:159:23
-enum-known-work : tie.Need-enum-known-work
-enum-known-work c = search needs
-
--- src/lib.rt:159:42
-show-live-requires : tie.Need-show-live-requires
-show-live-requires c κs = search needs
-
--- src/lib.rt:161:17
-enum-told-2 : tie.Need-enum-told-2
-enum-told-2 c = search needs
-
--- src/lib.rt:161:17
 returns-2 : tie.Need-returns-2
-returns-2 c = ?
+returns-2 c =
+    let a = c .before .before .before .before .before .before .before .before .args in
+    tip-unshown (now (a .mem)) (a .n) (a .p) (spineOf (a .canonical))
+    (subst (λ k. shownReply k ≡ shown (liveAt (viewAt (now (a .mem)) (a .n) .holdings) (placed (a .n) (a .p)))) (c .enum-told2 .given .1) (c .before .before .show-live .ensures .1))
 
--- src/lib.rt:163:26
-enum-known-b : tie.Need-enum-known-b
-enum-known-b c = search needs
-
--- src/lib.rt:164:17
 returns-3 : tie.Need-returns-3
-returns-3 c = ?
+returns-3 c =
+    let a = c .before .before .before .before .before .before .before .before .before .args in
+    tip-shown (now (a .mem)) (a .n) (a .p) (spineOf (a .canonical)) _ _
+    (subst (λ k. shownReply k ≡ shown (liveAt (viewAt (now (a .mem)) (a .n) .holdings) (placed (a .n) (a .p)))) (c .before .b .given .1) (c .before .before .before .show-live .ensures .1))
+    (subst (λ k. valueMeans k ≡ valueAt (valuesOf (now (a .mem)) (a .n) (spineOf (a .canonical))) (placed (a .n) (a .p))) (c .before .before .before .before .before .work .given .1) (c .before .before .before .before .before .before .before .value-at .ensures))
 
--- src/lib.rt:167:17
-enum-told-3 : tie.Need-enum-told-3
-enum-told-3 c = search needs
-
--- src/lib.rt:167:17
 returns-4 : tie.Need-returns-4
-returns-4 c = ?
+returns-4 c =
+    let a = c .before .before .before .before .before .before .before .before .args in
+    tip-unshown (now (a .mem)) (a .n) (a .p) (spineOf (a .canonical))
+    (subst (λ k. shownReply k ≡ shown (liveAt (viewAt (now (a .mem)) (a .n) .holdings) (placed (a .n) (a .p)))) (c .enum-told3 .given .1) (c .before .before .show-live .ensures .1))
 
 pub tip-at-spec : {M : Type 1} → statement M
 tip-at-spec =
     tie.close
     (tie.spec
-    value-at-requires
-    enum-told
+    (λ c κs. search needs)
+    (λ c. search needs)
     returns
-    enum-known-work
-    show-live-requires
-    enum-told-2
+    (λ c. search needs)
+    (λ c κs. search needs)
+    (λ c. search needs)
     returns-2
-    enum-known-b
+    (λ c. search needs)
     returns-3
-    enum-told-3
+    (λ c. search needs)
     returns-4)
