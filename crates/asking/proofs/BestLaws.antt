@@ -1,6 +1,6 @@
 -- Best and canonical best: the champion of a contest of ranks is the model's best, and in a fresh tree it is live and shows its block.
-use mathlib.Core.Path.{_≡_, refl, sym, ap, _∙_, subst}
-use mathlib.Core.Bool.{Bool, true, false, _&&_, _||_}
+use mathlib.Core.Path.{_≡_, refl, sym, ap, _∙_}
+use mathlib.Core.Bool.{Bool, true, false, _&&_}
 use mathlib.Core.List.{List}
 use mathlib.Core.Option.{Option, none, some}
 use Prim.Native.Nat.{ℕ, _+_, _≤_, _<_}
@@ -9,10 +9,10 @@ use lib.Dec.{eqb, ltb}
 use borrow.Author.Tests.{eq-eqb, ltb-true, ltb-false, lt-ltb}
 use Rattle.amount.specs.Choose.{_if_else_}
 use Rattle.amount.specs.Value.{fromWords}
-use Rattle.model.specs.Places.{thenBy, pick}
+use Rattle.model.specs.Places.{thenBy}
 use Rattle.model.specs.Record.{Block, Copy}
-use Rattle.model.specs.Holding.{Cell, free, held, Held, Holdings, effective, copyIsLive, isLive, hashOf, indexOf}
-use Rattle.model.specs.Standing.{Spine, winner, canonical, Value, unlinked, linked, isLinked, workOf, valueAt, outranks, best}
+use Rattle.model.specs.Holding.{Cell, free, held, Holdings, effective, copyIsLive, isLive, hashOf, indexOf}
+use Rattle.model.specs.Standing.{Spine, winner, canonical, Value, unlinked, isLinked, workOf, valueAt, outranks, best}
 use Rattle.model.specs.Questions.{Reply, shown, worth, tip, counted, listed, asBlock, blockAt, liveAt}
 use Rattle.model.proofs.Tools.{byBool, byOption, no-both, no-none, or-left, or-right, pick-some, pick-none}
 use Rattle.model.proofs.Order.{best-outranks}

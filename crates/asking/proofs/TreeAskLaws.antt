@@ -5,38 +5,43 @@ use mathlib.Core.List.{List}
 use mathlib.Core.Option.{Option, none, some}
 use Prim.Native.Nat.{ℕ, _≤_, _<_}
 use native.Mathlib.Omega.{arith}
-use lib.Dec.{eqb, ltb}
-use borrow.Author.Tests.{eq-eqb, ne-eqb, ltb-true, ltb-false}
+use borrow.Author.Tests.{ne-eqb}
 use Rattle.amount.specs.Choose.{_if_else_}
-use Rattle.model.specs.Record.{Block}
-use Rattle.model.specs.Holding.{Cell, free, held, Holdings, effective, isLive, placeOf}
-use Rattle.model.specs.Standing.{Spine, winner, canonical, Value, unlinked, linked, isLinked, Values, parent, valueAt}
-use Rattle.model.specs.Questions.{TreeQuestion, node, parentQ, linkedQ, canonicalLinkedQ, bestQ, canonicalBestQ, canonicalCountQ, liveCountQ, Reply, shown, worth, tip, counted, listed, blockAt, liveAt, onlyLive, parentOf, treeReply, treeLent, tooShort}
+use Rattle.model.specs.Holding.{Holdings, isLive, placeOf}
+use Rattle.model.specs.Standing.{Spine, winner, canonical, Value, Values, parent, valueAt}
+use Rattle.model.specs.Questions.{TreeQuestion, node, parentQ, linkedQ, canonicalLinkedQ, bestQ, canonicalBestQ, canonicalCountQ, liveCountQ, Reply, shown, worth, counted, blockAt, liveAt, onlyLive, parentOf, treeReply, treeLent, tooShort}
 use Rattle.model.specs.Numbers.{askTree}
-use Rattle.model.proofs.Tools.{byBool, no-both, no-none}
+use Rattle.block.specs.Answers.{refusalNumber}
+use Rattle.block.specs.declared.Refusal.{Refusal}
+use Rattle.block.specs.declared.Refusal.the-variants.{Room, Stale}
 use Rattle.memory.specs.Words.{word}
 use Rattle.memory.specs.Layout.{Laid}
 use Rattle.state.specs.View.{cellsOf, valuesOf, view, viewAt}
 use Rattle.state.specs.Sound.{SoundAt, placed}
 use Rattle.state.proofs.FindLaws.{placed-in, placed-out}
-use Rattle.asking.specs.Whole.{Whole, WholeAt}
+use Rattle.asking.specs.Whole.{WholeAt}
 use Rattle.asking.specs.AskedTree.{AskedTree}
-use Rattle.asking.specs.Within.{Answers, Worths, Bests, Tips}
+use Rattle.asking.specs.Within.{Begins, Answers, Worths, Bests}
+use Rattle.asking.specs.declared.Begun.the-variants.{No, At}
 
 -- ---- what every question begins with ----
 
-module _ (q : TreeQuestion) (m : List ℕ) where
+module _ (m : List ℕ) where
   -- a memory that is not laid out is not whole
-  pub asks-nowhere : (n r : ℕ) (y : Reply) → (Laid m (word m 0) → n ≡ word m 0) → n ≡ 0 → AskedTree q m r y
-  asks-nowhere n r y e z = record { number-is = λ w. never w; reply-is = λ w. never w }
-    where
-      never : {A : Type 0} → Whole m → A
-      never w = let i = e (w .sound .laid) in let o = w .sound .laid .some in absurd (omega arith)
+  pub begins-nowhere : (n : ℕ) → (Laid m (word m 0) → n ≡ word m 0) → n ≡ 0 → Begins m (No Room)
+  begins-nowhere n e z = λ w. let i = e (w .sound .laid) in let o = w .sound .laid .some in absurd (omega arith)
 
+  pub begins-stale : (word m 7 ≡ 1 → ⊥) → Begins m (No Stale)
+  begins-stale f = λ w. (refl, f)
+
+module _ (q : TreeQuestion) (m : List ℕ) where
   -- no sync covers the present
-  pub asks-stale : (y : Reply) → (word m 7 ≡ 1 → ⊥) → AskedTree q m 12 y
+  pub asks-refused : (r : Refusal) (y : Reply) → Begins m (No r) → AskedTree q m (refusalNumber r) y
   unfolding viewAt
-  asks-stale y f = record { number-is = λ w. rw (ne-eqb (word m 7) 1 f); reply-is = λ w e. absurd (omega (arith, e)) }
+  asks-refused r y f = record {
+    number-is = λ w. f w .0 ∙ (rw (ne-eqb (word m 7) 1 (f w .1)));
+    reply-is = λ w e. let z = f w .0 in absurd (omega (arith, e, z));
+  }
 
   module _ (short : (h : Holdings) (v : Values) → tooShort (treeLent q) (treeReply h v q) ≡ false) where
     fresh-number : word m 7 ≡ 1 → askTree q (view m) ≡ 0
@@ -44,12 +49,12 @@ module _ (q : TreeQuestion) (m : List ℕ) where
     fresh-number f = rw (f, short (view m .holdings) (view m .values))
 
     -- one does, and what is handed back needs no list
-    pub asks-fresh : (n r : ℕ) (y : Reply) → (Laid m (word m 0) → n ≡ word m 0) → word m 7 ≡ 1 → Answers q m n r y → AskedTree q m r y
-    asks-fresh n r y e f a = record {
-      number-is = λ w. a .number-is ∙ sym (fresh-number f);
+    pub asks-fresh : (n r : ℕ) (y : Reply) → Begins m (At n) → Answers q m n r y → AskedTree q m r y
+    asks-fresh n r y b a = record {
+      number-is = λ w. a .number-is ∙ sym (fresh-number (b .1));
       reply-is = λ w _.
-          let i : n ≡ word m 0 = e (w .sound .laid) in
-          subst (λ (k : ℕ). y ≡ treeReply (viewAt m k .holdings) (viewAt m k .values) q) i (a .reply-is (subst (WholeAt m) (sym i) w) f);
+          let i : word m 0 ≡ n = b .0 .room in
+          subst (λ (k : ℕ). y ≡ treeReply (viewAt m k .holdings) (viewAt m k .values) q) (sym i) (a .reply-is (subst (WholeAt m) i w) (b .1));
     }
 
 -- ---- counts ----
@@ -115,6 +120,7 @@ module _ (m : List ℕ) (n x r : ℕ) (y : Reply) where
   pub links-canonical : Worths canonical m n x r y → Answers (canonicalLinkedQ x) m n r y
   links-canonical a = record { number-is = a .number-is; reply-is = λ w _. a .reply-is w }
 
+module _ (m : List ℕ) (n r : ℕ) (y : Reply) where
   pub bests : Bests winner m n r y → Answers bestQ m n r y
   bests a = record { number-is = a .number-is; reply-is = a .reply-is }
 

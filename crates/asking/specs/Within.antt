@@ -1,15 +1,25 @@
--- What the inner functions of the questions promise, at the room n: the number is 0, and in a fresh whole memory the reply is the model's.
+-- What the inner functions of the questions promise: what refuses a question; and at the room n, that the number is 0, and that in a fresh whole
+-- memory the reply is the model's.
 use mathlib.Core.List.{List}
 use mathlib.Core.Path.{_≡_}
 use Prim.Native.Nat.{ℕ, _<_}
-use mathlib.Core.Bool.{Bool, true}
+use mathlib.Core.Bool.{true}
 use Rattle.model.specs.Holding.{Holdings, isLive, placeOf}
 use Rattle.model.specs.Standing.{Spine, Values, isLinked, valueAt, best}
 use Rattle.model.specs.Questions.{TreeQuestion, Reply, worth, tip, liveAt, treeReply}
+use Rattle.block.specs.Answers.{refusalNumber}
 use Rattle.memory.specs.Words.{word}
+use Rattle.memory.specs.Layout.{Laid}
 use Rattle.state.specs.View.{cellsOf, valuesOf, viewAt}
 use Rattle.state.specs.Sound.{placed}
-use Rattle.asking.specs.Whole.{WholeAt}
+use Rattle.asking.specs.Whole.{Whole, WholeAt}
+use Rattle.asking.specs.declared.Begun.{Begun}
+use Rattle.asking.specs.declared.Begun.the-variants.{No, At}
+
+-- A question is refused: a whole memory refuses with 12 alone, where no sync covers the present. Else one does, and the room is n.
+abbrev pub Begins : List ℕ → Begun → Type 0
+Begins m (No r) = Whole m → (refusalNumber r ≡ 12) × (word m 7 ≡ 1 → ⊥)
+Begins m (At n) = Laid m n × (word m 7 ≡ 1)
 
 pub record Answers (q : TreeQuestion) (m : List ℕ) (n : ℕ) (r : ℕ) (y : Reply) : Type 0 where
   pub number-is : r ≡ 0

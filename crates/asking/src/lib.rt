@@ -3,7 +3,7 @@
 ghost use mathlib.Core.Path.{_≡_};
 ghost use Prim.Native.Nat.{_<_};
 ghost use Rattle.asking.specs.AskedTree.{AskedTree};
-ghost use Rattle.asking.specs.Within.{Answers, Bests, Tips, Worths};
+ghost use Rattle.asking.specs.Within.{Answers, Begins, Bests, Tips, Worths};
 ghost use Rattle.block.specs.Answers.{countedNumber, countedReply, shownNumber, shownReply, tipNumber, tipReply, worthNumber, worthReply};
 ghost use Rattle.block.specs.Records.{hashMeans};
 ghost use Rattle.memory.specs.Layout.{Laid};
@@ -21,6 +21,26 @@ use block::Worth;
 use hash::Hash;
 use standing::Value;
 
+// What a question begins with: it is refused, or it is answered at this room.
+pub enum Begun {
+    No(Refusal),
+    At(usize),
+}
+
+// (A memory that is not laid out is none that calls left.)
+fn begin(mem: &[u64]) -> Begun
+    ensures { λ r. ⌜ Begins (now (mem .entry)) r ⌝ }
+{
+    let n = memory::room(mem);
+    if n == 0 {
+        return Begun::No(Refusal::Room);
+    }
+    if mem[7] != 1 {
+        return Begun::No(Refusal::Stale);
+    }
+    Begun::At(n)
+}
+
 // ---- node and parent ----
 
 // The block at a place if it is live; none for a number from n on.
@@ -32,10 +52,10 @@ fn show_live(mem: &[u64], n: usize, p: usize) -> Shown
     if n <= p {
         return Shown::None;
     }
-    if !places::live(mem, n, p) {
-        return Shown::None;
+    if places::live(mem, n, p) {
+        return state::show(mem, n, p);
     }
-    state::show(mem, n, p)
+    Shown::None
 }
 
 fn node_in(mem: &[u64], n: usize, h: Hash) -> Shown
@@ -49,14 +69,14 @@ fn node_in(mem: &[u64], n: usize, h: Hash) -> Shown
 pub fn node(mem: &[u64], h: Hash) -> Shown
     ensures { λ r. ⌜ AskedTree (questions.node (hashMeans h)) (now (mem .entry)) (shownNumber r) (shownReply r) ⌝ }
 {
-    let n = memory::room(mem);
-    if n == 0 {
-        return Shown::Refused(Refusal::Room);
+    match begin(mem) {
+        Begun::No(r) => {
+            return Shown::Refused(r);
+        }
+        Begun::At(n) => {
+            return node_in(mem, n, h);
+        }
     }
-    if mem[7] != 1 {
-        return Shown::Refused(Refusal::Stale);
-    }
-    node_in(mem, n, h)
 }
 
 // Only a live block has a parent to show.
@@ -78,14 +98,14 @@ fn parent_in(mem: &[u64], n: usize, h: Hash) -> Shown
 pub fn parent(mem: &[u64], h: Hash) -> Shown
     ensures { λ r. ⌜ AskedTree (parentQ (hashMeans h)) (now (mem .entry)) (shownNumber r) (shownReply r) ⌝ }
 {
-    let n = memory::room(mem);
-    if n == 0 {
-        return Shown::Refused(Refusal::Room);
+    match begin(mem) {
+        Begun::No(r) => {
+            return Shown::Refused(r);
+        }
+        Begun::At(n) => {
+            return parent_in(mem, n, h);
+        }
     }
-    if mem[7] != 1 {
-        return Shown::Refused(Refusal::Stale);
-    }
-    parent_in(mem, n, h)
 }
 
 // ---- linked and canonical linked ----
@@ -122,27 +142,27 @@ fn worth_in(mem: &[u64], n: usize, h: Hash, canonical: bool) -> Worth
 pub fn linked(mem: &[u64], h: Hash) -> Worth
     ensures { λ r. ⌜ AskedTree (linkedQ (hashMeans h)) (now (mem .entry)) (worthNumber r) (worthReply r) ⌝ }
 {
-    let n = memory::room(mem);
-    if n == 0 {
-        return Worth::Refused(Refusal::Room);
+    match begin(mem) {
+        Begun::No(r) => {
+            return Worth::Refused(r);
+        }
+        Begun::At(n) => {
+            return worth_in(mem, n, h, false);
+        }
     }
-    if mem[7] != 1 {
-        return Worth::Refused(Refusal::Stale);
-    }
-    worth_in(mem, n, h, false)
 }
 
 pub fn canonical_linked(mem: &[u64], h: Hash) -> Worth
     ensures { λ r. ⌜ AskedTree (canonicalLinkedQ (hashMeans h)) (now (mem .entry)) (worthNumber r) (worthReply r) ⌝ }
 {
-    let n = memory::room(mem);
-    if n == 0 {
-        return Worth::Refused(Refusal::Room);
+    match begin(mem) {
+        Begun::No(r) => {
+            return Worth::Refused(r);
+        }
+        Begun::At(n) => {
+            return worth_in(mem, n, h, true);
+        }
     }
-    if mem[7] != 1 {
-        return Worth::Refused(Refusal::Stale);
-    }
-    worth_in(mem, n, h, true)
 }
 
 // ---- best and canonical best ----
@@ -185,27 +205,27 @@ fn best_in(mem: &[u64], n: usize, canonical: bool) -> Tip
 pub fn best(mem: &[u64]) -> Tip
     ensures { λ r. ⌜ AskedTree bestQ (now (mem .entry)) (tipNumber r) (tipReply r) ⌝ }
 {
-    let n = memory::room(mem);
-    if n == 0 {
-        return Tip::Refused(Refusal::Room);
+    match begin(mem) {
+        Begun::No(r) => {
+            return Tip::Refused(r);
+        }
+        Begun::At(n) => {
+            return best_in(mem, n, false);
+        }
     }
-    if mem[7] != 1 {
-        return Tip::Refused(Refusal::Stale);
-    }
-    best_in(mem, n, false)
 }
 
 pub fn canonical_best(mem: &[u64]) -> Tip
     ensures { λ r. ⌜ AskedTree canonicalBestQ (now (mem .entry)) (tipNumber r) (tipReply r) ⌝ }
 {
-    let n = memory::room(mem);
-    if n == 0 {
-        return Tip::Refused(Refusal::Room);
+    match begin(mem) {
+        Begun::No(r) => {
+            return Tip::Refused(r);
+        }
+        Begun::At(n) => {
+            return best_in(mem, n, true);
+        }
     }
-    if mem[7] != 1 {
-        return Tip::Refused(Refusal::Stale);
-    }
-    best_in(mem, n, true)
 }
 
 // ---- counts ----
@@ -213,25 +233,25 @@ pub fn canonical_best(mem: &[u64]) -> Tip
 pub fn canonical_count(mem: &[u64]) -> Counted
     ensures { λ r. ⌜ AskedTree canonicalCountQ (now (mem .entry)) (countedNumber r) (countedReply r) ⌝ }
 {
-    let n = memory::room(mem);
-    if n == 0 {
-        return Counted::Refused(Refusal::Room);
+    match begin(mem) {
+        Begun::No(r) => {
+            return Counted::Refused(r);
+        }
+        Begun::At(_) => {
+            return Counted::Count(mem[13]);
+        }
     }
-    if mem[7] != 1 {
-        return Counted::Refused(Refusal::Stale);
-    }
-    Counted::Count(mem[13])
 }
 
 pub fn live_count(mem: &[u64]) -> Counted
     ensures { λ r. ⌜ AskedTree liveCountQ (now (mem .entry)) (countedNumber r) (countedReply r) ⌝ }
 {
-    let n = memory::room(mem);
-    if n == 0 {
-        return Counted::Refused(Refusal::Room);
+    match begin(mem) {
+        Begun::No(r) => {
+            return Counted::Refused(r);
+        }
+        Begun::At(_) => {
+            return Counted::Count(mem[12]);
+        }
     }
-    if mem[7] != 1 {
-        return Counted::Refused(Refusal::Stale);
-    }
-    Counted::Count(mem[12])
 }

@@ -1,5 +1,4 @@
 -- `asking::best_in` meets its contract.
-use denote.Ref.{now}
 use Rattle.asking.proofs.BestLaws.{best-winner, best-canonical}
 use borrow.Author.Needs.{needs}
 use Rattle.asking.proofs.best_in.Statement.{statement}

@@ -1,5 +1,4 @@
 -- `asking::node_in` meets its contract.
-use denote.Ref.{now}
 use Rattle.asking.proofs.TreeAskLaws.{nodes}
 use borrow.Author.Needs.{needs}
 use Rattle.asking.proofs.node_in.Statement.{statement}

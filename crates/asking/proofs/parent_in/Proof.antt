@@ -1,6 +1,5 @@
 -- `asking::parent_in` meets its contract.
 use mathlib.Core.Path.{sym, _∙_}
-use denote.Ref.{now}
 use borrow.Author.Tests.{not-true, not-false}
 use Rattle.asking.proofs.TreeAskLaws.{parent-out, parent-dead, parent-there}
 use borrow.Author.Needs.{needs}
