@@ -1,7 +1,6 @@
 // The questions about the tree (document 01, "Numbers given back"): node, parent, linked, canonical linked, best, canonical best, leaves, canonical
 // count, live count. Each answers from what the last sync kept, or 12 if a sync does not cover the present.
 ghost use mathlib.Core.Path.{_≡_};
-ghost use Prim.Native.Nat.{_<_};
 ghost use Rattle.asking.specs.AskedTree.{AskedTree};
 ghost use Rattle.asking.specs.Within.{Answers, Begins, Bests, Tips, Worths};
 ghost use Rattle.block.specs.Answers.{countedNumber, countedReply, shownNumber, shownReply, tipNumber, tipReply, worthNumber, worthReply};
