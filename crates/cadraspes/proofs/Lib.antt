@@ -1,0 +1,4 @@
+-- What the proofs of several functions use.
+mod CallLaws
+mod RecordLaws
+mod ToldLaws
