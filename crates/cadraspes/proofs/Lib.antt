@@ -2,3 +2,4 @@
 mod CallLaws
 mod RecordLaws
 mod ToldLaws
+mod ShownLaws

@@ -5,14 +5,17 @@ ghost use lib.ListN.{length};
 ghost use Rattle.amount.specs.Amounts.{reading};
 ghost use Rattle.amount.specs.Value.{meant};
 ghost use Rattle.cadraspes.specs.Lent.{blockMeant};
-ghost use Rattle.cadraspes.specs.Told.{AmountTold, CountTold, Counts};
+ghost use Rattle.cadraspes.specs.Told.{AmountTold, BlockWritten, CountTold, Counts, ListTold, Lists, ShownTold, Shows};
 ghost use Rattle.clearing.specs.Calls.{Reloads, Starts};
 ghost use Rattle.hash.specs.Digits.{bytesNumber};
 ghost use Rattle.model.specs.Numbers as numbers;
-ghost use Rattle.model.specs.Questions.{effectiveCountQ, generationQ, versionQ};
+ghost use Rattle.model.specs.Questions.{effectiveCountQ, effectiveQ, generationQ, versionQ};
 ghost use Rattle.state.specs.Moves as moves;
 use amount::Reading;
+use block::Block;
 use block::Counted;
+use block::Listed;
+use block::Shown;
 
 mod records;
 
@@ -105,6 +108,64 @@ fn tell_count(x: Counted, out: &mut u64) -> u64
     }
 }
 
+// Writes a block for the host.
+fn write_block(out: &mut [u64], b: Block)
+    requires { ⌜ length (now out) ≡ 29 ⌝ }
+    ensures { λ _. ⌜ BlockWritten b (now (out .entry)) (now (out .exit)) ⌝ }
+{
+    out[0] = 1;
+    rows::write_header(out, 1, b.header);
+    rows::write_copy(out, 17, b.copy);
+}
+
+fn tell_shown(x: Shown, out: &mut [u64]) -> u64
+    requires { ⌜ length (now out) ≡ 29 ⌝ }
+    ensures { λ r. ⌜ ShownTold x (now (out .entry)) (now (out .exit)) r ⌝ }
+{
+    match x {
+        Shown::Block(b) => {
+            write_block(out, b);
+            0
+        }
+        Shown::None => {
+            out[0] = 0;
+            0
+        }
+        Shown::Refused(y) => block::numbers::refusal_number(y),
+    }
+}
+
+fn tell_block(x: Shown, out: &mut [u64; 29]) -> u64
+    ensures { λ r. ⌜ ShownTold x (now (out .entry)) (now (out .exit)) r ⌝ }
+{
+    tell_shown(x, out)
+}
+
+fn tell_listed(x: Listed, out: &mut [u64]) -> u64
+    requires { ⌜ length (now out) ≡ 2 ⌝ }
+    ensures { λ r. ⌜ ListTold x (now (out .entry)) (now (out .exit)) r ⌝ }
+{
+    match x {
+        Listed::Count(n) => {
+            out[0] = 1;
+            out[1] = n as u64;
+            0
+        }
+        Listed::None => {
+            out[0] = 0;
+            out[1] = 0;
+            0
+        }
+        Listed::Refused(y) => block::numbers::refusal_number(y),
+    }
+}
+
+fn tell_list(x: Listed, out: &mut [u64; 2]) -> u64
+    ensures { λ r. ⌜ ListTold x (now (out .entry)) (now (out .exit)) r ⌝ }
+{
+    tell_listed(x, out)
+}
+
 #[no_mangle]
 pub extern "C" fn cadraspes_generation(mem: &[u64], out: &mut u64) -> u64
     ensures { λ r. ⌜ Counts generationQ (now (mem .entry)) (now (out .entry)) (now (out .exit)) r ⌝ }
@@ -125,6 +186,30 @@ pub extern "C" fn cadraspes_effective_count(mem: &[u64], out: &mut u64) -> u64
     ensures { λ r. ⌜ Counts effectiveCountQ (now (mem .entry)) (now (out .entry)) (now (out .exit)) r ⌝ }
 {
     tell_count(holdings::effective_count(mem), out)
+}
+
+// The effective record of a hash: 1, the sixteen words of its header and the twelve of its copy; or 0, and the rest stays as it was.
+#[no_mangle]
+pub extern "C" fn cadraspes_effective(mem: &[u64], hash: &[u8; 32], out: &mut [u64; 29]) -> u64
+    ensures { λ r. ⌜ Shows (effectiveQ (bytesNumber (now (hash .entry)))) (now (mem .entry)) (now (out .entry)) (now (out .exit)) r ⌝ }
+{
+    let h = hash::from_bytes(hash);
+    tell_block(holdings::effective(mem, h), out)
+}
+
+// The hashes touched since a generation and a version, 32 bytes each, in the order of their last touch: 1 and how many; or 0 and 0 where
+// none are to be had.
+#[no_mangle]
+pub extern "C" fn cadraspes_changes(
+    mem: &[u64],
+    generation: u64,
+    version: u64,
+    list: &mut [u8],
+    out: &mut [u64; 2],
+) -> u64
+    ensures { λ r. ⌜ Lists generation version (now (mem .entry)) (now (list .entry)) (now (list .exit)) (now (out .entry)) (now (out .exit)) r ⌝ }
+{
+    tell_list(holdings::changes(mem, generation, version, list), out)
 }
 
 // ---- amounts ----
