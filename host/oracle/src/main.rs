@@ -1,17 +1,18 @@
 //! oracle: histories on the original and on the reading of document 01.
 use oracle::check::{before, first_difference, program_differs};
 use oracle::compare::{compare, cover, describe, differs, profiles_or_all, Compared};
-use oracle::generate::{generate, overrun, PROFILES};
+use oracle::generate::{generate, overrun, HOLDINGS, PROFILES};
 use oracle::judge::{at_hand, Answered, Judge, NOT_AT_HAND};
+use oracle::library::{answers, compare_library};
 use oracle::shrink::shrink;
 use std::io::{Read, Write};
 
-const USAGE: &str = "oracle run [--sweep] < history > answers
+const USAGE: &str = "oracle run [--sweep | --library] < history > answers
 oracle gen SEED [PROFILE] > history
 oracle check HISTORY ANSWERS
 oracle shrink HISTORY [PROGRAM ARGS..] > smaller history
 oracle fuzz FROM TO PROGRAM [ARGS..]
-oracle compare --histories N --seed S [--profile P]
+oracle compare [--library] --histories N --seed S [--profile P]
 oracle cover FROM TO [PROFILE..]
 oracle record FOLDER
 oracle texts > texts
@@ -23,13 +24,15 @@ fn main() {
     let ok = match args[..] {
         ["run"] => run(false),
         ["run", "--sweep"] => run(true),
+        ["run", "--library"] => run_library(),
         ["gen", _, "overrun"] => print_all(&overrun()),
         ["gen", seed] => print_history(seed, "mixed"),
         ["gen", seed, profile] => print_history(seed, profile),
         ["check", history, answers] => check(&read_file(history), &read_file(answers)),
         ["shrink", history, ref program @ ..] => print_small(&read_file(history), program),
         ["fuzz", from, to, ref program @ ..] if !program.is_empty() => fuzz(number(from), number(to), program),
-        ["compare", ref options @ ..] => print_compared(options),
+        ["compare", "--library", ref options @ ..] => print_compared(options, true),
+        ["compare", ref options @ ..] => print_compared(options, false),
         ["cover", from, to, ref profiles @ ..] => print_cover(number(from), number(to), profiles),
         ["record", folder] => print_recorded(folder),
         ["texts"] => std::io::stdout().write_all(&oracle::texts::texts()).is_ok(),
@@ -40,7 +43,7 @@ fn main() {
 }
 
 fn usage() -> ! {
-    eprintln!("{USAGE}\nprofiles: {} (default mixed), overrun", PROFILES.join(" "));
+    eprintln!("{USAGE}\nprofiles: {} {HOLDINGS} (default mixed), overrun", PROFILES.join(" "));
     std::process::exit(2)
 }
 
@@ -74,6 +77,16 @@ fn run(sweep: bool) -> bool {
     let (judge, answered) = Judge::run(&read_input(), sweep);
     let answers: String = answered.iter().map(|one| format!("{}\n", one.answer)).collect();
     print_all(&answers) && tell(&judge, &answered)
+}
+
+/// The library's answers, up to the first call that it lacks and that changes
+/// something.
+fn run_library() -> bool {
+    if !cadraspes::linked() {
+        eprintln!("{}", cadraspes::NOT_LINKED);
+        return false;
+    }
+    print_all(&answers(&read_input()))
 }
 
 fn tell(judge: &Judge, answered: &[Answered]) -> bool {
@@ -131,21 +144,33 @@ fn fuzz(from: u64, to: u64, program: &[&str]) -> bool {
     true
 }
 
-fn print_compared(options: &[&str]) -> bool {
+/// The original against the reading, or the library against both.
+fn print_compared(options: &[&str], library: bool) -> bool {
     let (mut histories, mut seed, mut profiles) = (1000, 0, Vec::new());
     for option in options.chunks(2) {
         match option {
             ["--histories", count] => histories = number(count),
             ["--seed", from] => seed = number(from),
-            ["--profile", profile] if PROFILES.contains(profile) => profiles.push(*profile),
+            ["--profile", profile] if PROFILES.contains(profile) || *profile == HOLDINGS => profiles.push(*profile),
             _ => usage(),
         }
     }
+    if library && !cadraspes::linked() {
+        eprintln!("{}", cadraspes::NOT_LINKED);
+        return false;
+    }
     if !at_hand() {
-        return print_all(&format!("{NOT_AT_HAND}\n"));
+        println!("{NOT_AT_HAND}");
+        if !library {
+            return true;
+        }
     }
     let progress = |so_far: &Compared| eprintln!("{}", so_far.summary());
-    let compared = compare(histories, seed, &profiles_or_all(&profiles), &progress);
+    let compared = match library {
+        true if profiles.is_empty() => compare_library(histories, seed, &[HOLDINGS], &progress),
+        true => compare_library(histories, seed, &profiles, &progress),
+        false => compare(histories, seed, &profiles_or_all(&profiles), &progress),
+    };
     println!("{}", compared.summary());
     print_all(compared.difference.as_deref().unwrap_or("")) && compared.difference.is_none()
 }
