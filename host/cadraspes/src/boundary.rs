@@ -17,7 +17,8 @@ pub const fn linked() -> bool {
 }
 
 /// What to say where it was not.
-pub const NOT_LINKED: &str = "the library was not there to link (run tools/native-staticlib cadraspes, then build anew): \
+pub const NOT_LINKED: &str =
+    "the library was not there to link (run tools/native-staticlib cadraspes, then build anew): \
                               what needs it was not run";
 
 /// Declares the functions of C; where they are not linked, calling one panics.

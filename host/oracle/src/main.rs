@@ -3,7 +3,7 @@ use oracle::check::{before, first_difference, program_differs};
 use oracle::compare::{compare, cover, describe, differs, profiles_or_all, Compared};
 use oracle::generate::{generate, overrun, HOLDINGS, PROFILES};
 use oracle::judge::{at_hand, Answered, Judge, NOT_AT_HAND};
-use oracle::library::{answers, compare_library};
+use oracle::library;
 use oracle::shrink::shrink;
 use std::io::{Read, Write};
 
@@ -31,8 +31,8 @@ fn main() {
         ["check", history, answers] => check(&read_file(history), &read_file(answers)),
         ["shrink", history, ref program @ ..] => print_small(&read_file(history), program),
         ["fuzz", from, to, ref program @ ..] if !program.is_empty() => fuzz(number(from), number(to), program),
-        ["compare", "--library", ref options @ ..] => print_compared(options, true),
-        ["compare", ref options @ ..] => print_compared(options, false),
+        ["compare", "--library", ref options @ ..] => print_library(options),
+        ["compare", ref options @ ..] => print_compared(options),
         ["cover", from, to, ref profiles @ ..] => print_cover(number(from), number(to), profiles),
         ["record", folder] => print_recorded(folder),
         ["texts"] => std::io::stdout().write_all(&oracle::texts::texts()).is_ok(),
@@ -86,7 +86,7 @@ fn run_library() -> bool {
         eprintln!("{}", cadraspes::NOT_LINKED);
         return false;
     }
-    print_all(&answers(&read_input()))
+    print_all(&library::answers(&read_input()))
 }
 
 fn tell(judge: &Judge, answered: &[Answered]) -> bool {
@@ -144,8 +144,8 @@ fn fuzz(from: u64, to: u64, program: &[&str]) -> bool {
     true
 }
 
-/// The original against the reading, or the library against both.
-fn print_compared(options: &[&str], library: bool) -> bool {
+/// How many histories, from which seed, of which profiles.
+fn compare_options<'a>(options: &[&'a str]) -> (u64, u64, Vec<&'a str>) {
     let (mut histories, mut seed, mut profiles) = (1000, 0, Vec::new());
     for option in options.chunks(2) {
         match option {
@@ -155,22 +155,35 @@ fn print_compared(options: &[&str], library: bool) -> bool {
             _ => usage(),
         }
     }
-    if library && !cadraspes::linked() {
+    (histories, seed, profiles)
+}
+
+fn print_compared(options: &[&str]) -> bool {
+    let (histories, seed, profiles) = compare_options(options);
+    if !at_hand() {
+        return print_all(&format!("{NOT_AT_HAND}\n"));
+    }
+    let progress = |so_far: &Compared| eprintln!("{}", so_far.summary());
+    let compared = compare(histories, seed, &profiles_or_all(&profiles), &progress);
+    println!("{}", compared.summary());
+    print_all(compared.difference.as_deref().unwrap_or("")) && compared.difference.is_none()
+}
+
+/// The library against the original and the reading.
+fn print_library(options: &[&str]) -> bool {
+    let (histories, seed, mut profiles) = compare_options(options);
+    if !cadraspes::linked() {
         eprintln!("{}", cadraspes::NOT_LINKED);
         return false;
     }
     if !at_hand() {
-        println!("{NOT_AT_HAND}");
-        if !library {
-            return true;
-        }
+        eprintln!("{NOT_AT_HAND}");
     }
-    let progress = |so_far: &Compared| eprintln!("{}", so_far.summary());
-    let compared = match library {
-        true if profiles.is_empty() => compare_library(histories, seed, &[HOLDINGS], &progress),
-        true => compare_library(histories, seed, &profiles, &progress),
-        false => compare(histories, seed, &profiles_or_all(&profiles), &progress),
-    };
+    if profiles.is_empty() {
+        profiles.push(HOLDINGS);
+    }
+    let progress = |so_far: &library::Compared| eprintln!("{}", so_far.summary());
+    let compared = library::compare(histories, seed, &profiles, library::library, &progress);
     println!("{}", compared.summary());
     print_all(compared.difference.as_deref().unwrap_or("")) && compared.difference.is_none()
 }
