@@ -6,7 +6,7 @@ use crate::guarded::{Library, Memory, Words};
 use cadraspes::boundary;
 use history::{Block, Call, Hash, Marks};
 
-fn name(number: u64) -> Hash {
+pub fn name(number: u64) -> Hash {
     let mut hash = [0; 32];
     hash[24..].copy_from_slice(&number.to_be_bytes());
     Hash(hash)
@@ -50,7 +50,7 @@ fn every_call(memory: &Memory, rng: &mut Rng) -> Vec<u64> {
 }
 
 /// A memory of six hashes and five entries, full, after some touches.
-fn sound() -> Memory {
+pub fn sound() -> Memory {
     let mut library = Library::default();
     let mut call = |line: String| assert_eq!(library.call(&Call::read(&line).unwrap()).to_string(), "0", "{line}");
     call("start 6 5 1 0".to_string());

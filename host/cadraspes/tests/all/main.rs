@@ -4,6 +4,7 @@ mod bad_memory;
 mod common;
 mod guarded;
 mod lists;
+mod pages;
 mod random;
 mod records;
 mod refusals;
