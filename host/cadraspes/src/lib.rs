@@ -1,8 +1,9 @@
 //! The proved library as a Rust crate: a tree of blocks, its journal and their
 //! calls, in memory that the tree owns. Document 01 says what each call does.
 //!
-//! ```no_run
+//! ```
 //! use cadraspes::{Block, Hash, Marks, Refusal, Tree};
+//! # if !cadraspes::linked() { return Ok(()); }
 //!
 //! let mut tree = Tree::new(8, 16, 1, 0)?;
 //! let (hash, prev) = (Hash([7; 32]), Hash([0; 32]));

@@ -239,3 +239,30 @@ fn amount(text: &str) -> Answer {
     out.check();
     answer(Asked { number, words: out.shown().to_vec() }, |words| Answer::Amount(reading_of(words[0], &words[1..])))
 }
+
+#[test]
+fn a_guard_that_was_written_is_noticed() {
+    let noticed = |check: &dyn Fn()| std::panic::catch_unwind(std::panic::AssertUnwindSafe(check)).is_err();
+    for at in [0, GUARD_WORDS - 1, GUARD_WORDS + 3, 2 * GUARD_WORDS + 2] {
+        let mut words = Words::new(&[7, 8, 9]);
+        assert!(!noticed(&|| words.check()));
+        words.0[at] ^= 1;
+        assert!(noticed(&|| words.check()), "word {at}");
+    }
+    for at in [0, 511, 515, 1026] {
+        let mut bytes = Bytes::new(&[7, 8, 9]);
+        assert!(!noticed(&|| bytes.check()));
+        bytes.0[at] ^= 1;
+        assert!(noticed(&|| bytes.check()), "byte {at}");
+    }
+}
+
+#[test]
+fn a_refusal_that_changes_something_is_noticed() {
+    let noticed = |number: u64| {
+        let call = || Memory(Words::new(&[7])).call(|mem| (mem[0] = 8, number).1);
+        std::panic::catch_unwind(call).is_err()
+    };
+    assert!(!noticed(0) && noticed(1) && noticed(13));
+    assert!(std::panic::catch_unwind(|| Memory(Words::new(&[7])).call(|_| 14)).is_err(), "14 is no number");
+}

@@ -112,3 +112,20 @@ fn nothing_outside_is_read() {
         every_call(&vec![rng.pick(&[0, 1, u64::MAX]); words], &mut rng);
     }
 }
+
+/// Run by the test below in a program of its own, which it ends.
+#[test]
+#[ignore = "it ends the test program, as it must"]
+fn a_word_past_the_end() {
+    let mut lent = Lent::words(&[1, 2, 3]);
+    let words = lent.as_words();
+    println!("{}", unsafe { words.as_ptr().add(words.len()).read_volatile() });
+}
+
+#[test]
+fn a_read_past_the_end_is_noticed() {
+    let program = std::env::current_exe().expect("this program has a path");
+    let arguments = ["--ignored", "--exact", "pages::a_word_past_the_end"];
+    let status = std::process::Command::new(program).args(arguments).output().expect("it can be run").status;
+    assert_eq!(status.code(), None, "ended by a signal");
+}
