@@ -1,8 +1,8 @@
--- `cadraspes::tell_listed` meets its contract.
+-- `cadraspes::telling::write_listed` meets its contract.
 use Rattle.cadraspes.proofs.ShownLaws.{tells-listed, tells-no-list}
 use borrow.Author.Needs.{needs}
-use Rattle.cadraspes.proofs.tell_listed.Statement.{statement}
-use Rattle.cadraspes.proofs.tell_listed.Tie as tie
+use Rattle.cadraspes.proofs.telling.write_listed.Statement.{statement}
+use Rattle.cadraspes.proofs.telling.write_listed.Tie as tie
 
 returns : tie.Need-returns
 returns c = tells-listed _ (c .before .x .given .1)
@@ -10,8 +10,8 @@ returns c = tells-listed _ (c .before .x .given .1)
 returns-2 : tie.Need-returns-2
 returns-2 c = tells-no-list _ (c .enum-told .given .1)
 
-pub tell-listed-spec : {M : Type 1} → statement M
-tell-listed-spec =
+pub write-listed-spec : {M : Type 1} → statement M
+write-listed-spec =
     tie.close
     (tie.spec (λ c. search needs) (λ c. search needs) (λ c. search needs) (λ c. search needs) (λ c. search needs) (λ c. search needs)
     (λ c. search needs) (λ c κs. search needs) (λ c. search needs) returns (λ c. search needs) returns-2 (λ c. search needs))

@@ -1,11 +1,11 @@
--- `cadraspes::write_block` meets its contract.
+-- `cadraspes::telling::write_block` meets its contract.
 use mathlib.Core.Path.{_∙_, refl}
 use native.Mathlib.Omega.{arith}
 use lib.ListN.{length-set}
 use Rattle.cadraspes.proofs.ShownLaws.{block-written}
 use borrow.Author.Needs.{needs}
-use Rattle.cadraspes.proofs.write_block.Statement.{statement}
-use Rattle.cadraspes.proofs.write_block.Tie as tie
+use Rattle.cadraspes.proofs.telling.write_block.Statement.{statement}
+use Rattle.cadraspes.proofs.telling.write_block.Tie as tie
 
 write-header-requires : tie.Need-write-header-requires
 write-header-requires c κs = simp length-set (omega arith)

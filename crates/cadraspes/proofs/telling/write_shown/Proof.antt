@@ -1,8 +1,8 @@
--- `cadraspes::tell_shown` meets its contract.
+-- `cadraspes::telling::write_shown` meets its contract.
 use Rattle.cadraspes.proofs.ShownLaws.{tells-block, tells-none, tells-no-block}
 use borrow.Author.Needs.{needs}
-use Rattle.cadraspes.proofs.tell_shown.Statement.{statement}
-use Rattle.cadraspes.proofs.tell_shown.Tie as tie
+use Rattle.cadraspes.proofs.telling.write_shown.Statement.{statement}
+use Rattle.cadraspes.proofs.telling.write_shown.Tie as tie
 
 returns : tie.Need-returns
 returns c = tells-block (c .before .before .before .before .before .x .given .1) (c .before .before .write-block .ensures)
@@ -13,8 +13,8 @@ returns-2 c = tells-none _ (c .before .before .before .pre) (c .enum-told .given
 returns-3 : tie.Need-returns-3
 returns-3 c = tells-no-block _ (c .before .before .x2 .given .1) (c .refusal-number .ensures)
 
-pub tell-shown-spec : {M : Type 1} → statement M
-tell-shown-spec =
+pub write-shown-spec : {M : Type 1} → statement M
+write-shown-spec =
     tie.close
     (tie.spec (λ c. search needs) (λ c κs. search needs) (λ c. search needs) (λ c. search needs) (λ c. search needs) (λ c κs. search needs)
     (λ c. search needs) returns (λ c. search needs) returns-2 returns-3)
