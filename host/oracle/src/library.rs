@@ -5,6 +5,7 @@ use crate::judge::{Answered, Judge};
 use crate::shrink::shrink;
 use cadraspes::Replay;
 use history::{lines, read_line, Answer, Call, Line};
+use std::collections::BTreeMap;
 
 /// Answers calls; none for a call that it lacks.
 pub type Player = Box<dyn FnMut(&Call) -> Option<Answer>>;
@@ -57,15 +58,21 @@ pub fn differs(given: &Given, expected: &str) -> Option<String> {
     (!same).then(|| format!("# line {line}: {call}\n#   the library: {ours}\n#   expected:    {theirs}\n"))
 }
 
+/// What a player answered to a history.
+pub struct Against {
+    pub answers: Vec<Answer>,
+    pub difference: Option<String>,
+}
+
 /// Runs a history on all three: the original and the reading must agree, and
-/// the player with them. Gives how many calls it answered, and a difference.
-pub fn against(history: &[u8], player: Player) -> (u64, Option<String>) {
+/// the player with them.
+pub fn against(history: &[u8], player: Player) -> Against {
     let (judge, answered) = Judge::run(history, false);
     let given = given(history, player);
     let between = judge.differences.first().map(|one| format!("# line {}: the original is not as read\n", one.line));
     let differ = |(one, given): (&Answered, &Given)| differs(given, &one.answer.to_string());
-    let count = given.iter().filter(|one| one.answer.is_some()).count() as u64;
-    (count, between.or_else(|| answered.iter().zip(&given).find_map(differ)))
+    let difference = between.or_else(|| answered.iter().zip(&given).find_map(differ));
+    Against { answers: given.into_iter().filter_map(|one| one.answer).collect(), difference }
 }
 
 /// What a comparison of many histories came to.
@@ -73,6 +80,8 @@ pub fn against(history: &[u8], player: Player) -> (u64, Option<String>) {
 pub struct Compared {
     pub histories: u64,
     pub calls: u64,
+    /// How often each refusal was met, by its number.
+    pub refused: BTreeMap<u8, u64>,
     /// A history on which the library differs, made small, with what differs.
     pub difference: Option<String>,
 }
@@ -80,7 +89,9 @@ pub struct Compared {
 impl Compared {
     pub fn summary(&self) -> String {
         let found = if self.difference.is_some() { "a difference" } else { "no difference" };
-        format!("{} histories, {} calls answered by the library: {found}", self.histories, self.calls)
+        let refused: Vec<String> = self.refused.iter().map(|(number, times)| format!("{number}: {times}")).collect();
+        let (histories, calls, refused) = (self.histories, self.calls, refused.join(", "));
+        format!("{histories} histories, {calls} calls answered by the library ({refused} refused): {found}")
     }
 }
 
@@ -96,9 +107,14 @@ pub fn compare(
     for at in 0..count {
         let (seed, profile) = (seed + at / profiles.len() as u64, profiles[(at % profiles.len() as u64) as usize]);
         let history = generate(seed, profile).expect("a profile");
-        let (calls, difference) = against(history.as_bytes(), player());
+        let Against { answers, difference } = against(history.as_bytes(), player());
         compared.histories += 1;
-        compared.calls += calls;
+        compared.calls += answers.len() as u64;
+        for answer in answers {
+            if let Answer::Refused(number) = answer {
+                *compared.refused.entry(number).or_default() += 1;
+            }
+        }
         if difference.is_some() {
             compared.difference = Some(describe(history.as_bytes(), &format!("oracle gen {seed} {profile}"), player));
             return compared;
@@ -112,7 +128,7 @@ pub fn compare(
 
 /// A history on which a player differs, made small, with what differs.
 fn describe(history: &[u8], from: &str, player: fn() -> Player) -> String {
-    let difference = |history: &[u8]| against(history, player()).1;
+    let difference = |history: &[u8]| against(history, player()).difference;
     let small = shrink(history, &|history| difference(history).is_some()).unwrap_or(history.to_vec());
     format!("# from: {from}\n{}{}", difference(&small).unwrap_or_default(), String::from_utf8_lossy(&small))
 }

@@ -63,3 +63,36 @@ fn random_calls_are_answered_as_document_01_is_read() {
     let met: Vec<usize> = (1..14).filter(|number| refused[*number] > 0).collect();
     assert_eq!(met, [2, 3, 4, 5, 6, 7, 8, 9, 10, 11, 13], "{refused:?}");
 }
+
+/// Thousands of hashes, some with their last eight bytes alike, and a journal
+/// that runs over again and again.
+#[test]
+fn many_hashes_are_held_as_document_01_is_read() {
+    if !with_library() {
+        return;
+    }
+    let mut rng = Rng(8);
+    let (mut library, mut replay) = (cadraspes::Replay::default(), reading::Replay::default());
+    let names: Vec<String> =
+        (0..3_100).map(|at| format!("{:x}{:016x}", rng.next(), rng.below(1 << (at % 40)))).collect();
+    let mut call = |line: String| {
+        let call = Call::read(&line).expect("a call");
+        assert_eq!(library.call(&call), Some(replay.call(&call)), "{line}");
+        replay.0.as_ref().map_or(0, |reading| reading.holding.version)
+    };
+    let mut version = call("start 3000 500 1 0".to_string());
+    for turn in 0..40_000 {
+        let (name, store) = (&names[rng.below(3_100) as usize], rng.below(3));
+        version = match rng.below(16) {
+            0..=5 if turn < 2_000 => call(format!("load {store} {name} 0 0 1 \"1\" \"1\" - - - -")),
+            0..=7 => call(format!("put {store} {name} 0 0 1 \"1\" \"1\" o {turn} - {name}")),
+            8..=10 => call(format!("remove {store} {name}")),
+            11 => call(format!("answer {name} {}", rng.below(3))),
+            12..=14 => call(format!("effective {name}")),
+            _ if turn % 20 > 0 => call(format!("changes 1 {}", version.saturating_sub(rng.below(40)))),
+            _ => call(format!("changes 1 {}", version.saturating_sub(rng.below(600)))),
+        };
+    }
+    call("count".to_string());
+    call("version".to_string());
+}

@@ -56,6 +56,8 @@ fn random_histories_of_the_holdings() {
         let compared = compare(4_000, 5_000_000, &[HOLDINGS], library, &|_| {});
         assert!(compared.difference.is_none(), "{}", compared.difference.unwrap());
         assert!(compared.calls > 200 * compared.histories, "{}", compared.summary());
+        let often = compared.refused.iter().filter(|(_, times)| **times > 100).map(|(number, _)| *number);
+        assert!(often.eq([1, 2, 3, 4, 5, 6, 7, 8, 9, 10, 11, 13]), "{}", compared.summary());
     }
 }
 
