@@ -15,34 +15,15 @@ use Rattle.block.specs.Answers.{listedNumber}
 use Rattle.block.specs.declared.Listed.{Listed}
 use Rattle.block.specs.declared.Listed.the-variants.{Count, None, Refused}
 use Rattle.block.specs.declared.Refusal.the-variants.{List as Short, Room}
-use Rattle.journal.specs.declared.Had.{Had}
 use Rattle.journal.specs.declared.Had.the-variants.{None as HadNone, Count as HadCount}
 use Rattle.journal.specs.Changes.{changesOf, hadOf, Writes}
+use Rattle.journal.proofs.ChangesLaws.{counted-list, nothing-had}
 use Rattle.memory.specs.Words.{word}
 use Rattle.memory.specs.Layout.{Laid}
 use Rattle.state.specs.View.{viewAt}
 use Rattle.state.specs.Sound.{SoundAt}
 use Rattle.state.specs.Handing.{placesIn, listedOf, handed, Hands}
 use Rattle.holdings.specs.Asked.{ChangesAt, Changes}
-
--- ---- what was had ----
-
-abbrev size : Had → ℕ
-size HadNone = 0
-size (HadCount k) = suc k
-
-record HadList (o : Option (List ℕ)) (k : ℕ) : Type 0 where
-  list : List ℕ
-  is : o ≡ some list
-  long : k ≡ length list
-
-had-list : (o : Option (List ℕ)) (k : ℕ) → HadCount k ≡ hadOf o → HadList o k
-had-list none k e = let z : suc k ≡ 0 = ap size e in absurd (omega arith)
-had-list (some l) k e = let z : suc k ≡ suc (length l) = ap size e in record { list = l; is = refl; long = omega arith }
-
-had-none : (o : Option (List ℕ)) → HadNone ≡ hadOf o → o ≡ none
-had-none none e = refl
-had-none (some l) e = let z : 0 ≡ suc (length l) = ap size e in absurd (omega arith)
 
 -- ---- in answer ----
 
@@ -57,24 +38,24 @@ module _ (g v : ℕ) (m : List ℕ) (n : ℕ) (list : List ℕ) where
   pub changes-none : (SoundAt m n → HadNone ≡ hadOf (changesOf m n g v)) → ChangesAt g v m n list list None
   changes-none had = record {
     refused = λ _. refl;
-    number-is = λ s. sym (number none (had-none _ (had s)));
-    right = λ s z. let e = since ∙ had-none _ (had s) in record { answer-is = ap listedOf (sym e); list-is = ap (handed list) (sym e) };
+    number-is = λ s. sym (number none (nothing-had _ (had s)));
+    right = λ s z. let e = since ∙ nothing-had _ (had s) in record { answer-is = ap listedOf (sym e); list-is = ap (handed list) (sym e) };
   }
 
   module _ (k : ℕ) (had : SoundAt m n → HadCount k ≡ hadOf (changesOf m n g v)) where
     pub changes-short : length list / 32 < k → ChangesAt g v m n list list (Refused Short)
     changes-short l = record {
       refused = λ _. refl;
-      number-is = λ s. let h = had-list _ k (had s) in sym (number (some (h .list)) (h .is) ∙ ap (λ b. 13 if b else 0) (lt-ltb (placesIn list) (length (h .list)) (subst (λ (i : ℕ). length list / 32 < i) (h .long) l)));
+      number-is = λ s. let h = counted-list _ k (had s) in sym (number (some (h .list)) (h .is) ∙ ap (λ b. 13 if b else 0) (lt-ltb (placesIn list) (length (h .list)) (subst (λ (i : ℕ). length list / 32 < i) (h .long) l)));
       right = λ s z. absurd (omega (arith, z));
     }
 
     pub changes-written : (list′ : List ℕ) → k ≤ length list / 32 → Writes m n v list list′ → ChangesAt g v m n list list′ (Count k)
     changes-written list′ l w = record {
       refused = λ ne. absurd (ne refl);
-      number-is = λ s. let h = had-list _ k (had s) in sym (number (some (h .list)) (h .is) ∙ ap (λ b. 13 if b else 0) (le-ltb (placesIn list) (length (h .list)) (subst (λ (i : ℕ). i ≤ length list / 32) (h .long) l)));
+      number-is = λ s. let h = counted-list _ k (had s) in sym (number (some (h .list)) (h .is) ∙ ap (λ b. 13 if b else 0) (le-ltb (placesIn list) (length (h .list)) (subst (λ (i : ℕ). i ≤ length list / 32) (h .long) l)));
       right = λ s z.
-          let h = had-list _ k (had s) in
+          let h = counted-list _ k (had s) in
           let e = since ∙ h .is in
           let q = h .long in
           record {

@@ -18,6 +18,7 @@ use Rattle.hash.specs.Digits.{bytesOf}
 use Rattle.memory.specs.Words.{word}
 use Rattle.journal.specs.Journal.{tab, touchedAt, laterAt, slotOf, lastAt, journalOf, Journaled}
 use Rattle.journal.specs.Changes.{Later, changesOf, hadOf, lasts, bytesOfAll, Writes}
+use Rattle.journal.specs.declared.Had.{Had}
 use Rattle.journal.specs.declared.Had.the-variants.{None, Count}
 use Rattle.journal.proofs.TabLaws.{tab-length, take-tab}
 use Rattle.journal.proofs.ListLaws.{lasts-distinct, lasts-none, lasts-old, lasts-new, lasts-elem, elem-lasts, put-more}
@@ -256,3 +257,23 @@ writing-done m n v k i at list list₁ s r h =
           written-done (touchedAt m n) k at list list₁ (subst (λ (y : ℕ). Written (touchedAt m n) k y at list list₁) z (r .part w (q .1)))
           ∙ ap (λ (y : List ℕ). sets list 0 (bytesOfAll y)) (sym (q .2));
     }
+
+-- ---- what an answer tells ----
+
+abbrev size : Had → ℕ
+size None = 0
+size (Count k) = suc k
+
+-- the list that k hashes were counted of
+pub record HadList (o : Option (List ℕ)) (k : ℕ) : Type 0 where
+  pub list : List ℕ
+  pub is : o ≡ some list
+  pub long : k ≡ length list
+
+pub counted-list : (o : Option (List ℕ)) (k : ℕ) → Count k ≡ hadOf o → HadList o k
+counted-list none k e = let z : suc k ≡ 0 = ap size e in absurd (omega arith)
+counted-list (some l) k e = let z : suc k ≡ suc (length l) = ap size e in record { list = l; is = refl; long = omega arith }
+
+pub nothing-had : (o : Option (List ℕ)) → None ≡ hadOf o → o ≡ none
+nothing-had none e = refl
+nothing-had (some l) e = let z : 0 ≡ suc (length l) = ap size e in absurd (omega arith)

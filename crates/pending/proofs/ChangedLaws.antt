@@ -1,17 +1,17 @@
 -- The hashes touched since a version, those that have room, become pending: one entry of the journal after another.
-use mathlib.Core.Path.{_≡_, refl, sym, ap, _∙_, fun-ext, subst}
+use mathlib.Core.Path.{_≡_, refl, sym, ap, _∙_}
 use mathlib.Core.Bool.{Bool, true, false, not, _&&_, _||_}
 use mathlib.Core.List.{List, [], _∷_}
-use mathlib.Core.Option.{Option, none, some}
-use Prim.Native.Nat.{ℕ, suc, _+_, _*_, _≤_, _<_}
+use mathlib.Core.Option.{some}
+use Prim.Native.Nat.{ℕ, _+_, _*_, _≤_, _<_}
 use native.Mathlib.Numerals.{add-one}
 use native.Mathlib.Omega.{arith}
 use lib.Dec.{eqb}
-use borrow.Author.Tests.{eqb-true, eqb-false, eq-eqb}
+use borrow.Author.Tests.{eqb-true, eqb-false}
 use Rattle.model.specs.Lists.{elem}
 use Rattle.model.specs.Holding.{Cell, free, held, hasRoom, placeOf}
 use Rattle.model.specs.Relink.{Pending, changedIn}
-use Rattle.model.proofs.Tools.{byBool, no-both, or-none, first-some, first-none}
+use Rattle.model.proofs.Tools.{byBool, or-none, first-some, first-none}
 use Rattle.memory.specs.Words.{word}
 use Rattle.memory.specs.Layout.{ring, Laid}
 use Rattle.journal.specs.Journal.{slotOf, touchedAt, lastAt, Journaled}
@@ -23,7 +23,7 @@ use Rattle.state.specs.Sound.{Used, SoundAt, placed}
 use Rattle.state.proofs.FindLaws.{placed-in, placed-out, cell-hash}
 use Rattle.state.proofs.ViewLaws.{slot-same, touched-same}
 use Rattle.pending.specs.Pending.{PendOnly, Turns}
-use Rattle.pending.proofs.TurnLaws.{pend-cell, turns-none, turns-as, turns-then}
+use Rattle.pending.proofs.TurnLaws.{pend-cell, turns-none, turns-as, turns-then, or-swap}
 
 -- ---- one entry ----
 
@@ -87,13 +87,7 @@ changed-one : (b : Bool) (l : List ℕ) (x : ℕ) (c : Cell) → ((b || changedI
 unfolding changedIn elem hasRoom
 changed-one true l x c = refl
 changed-one false l x free = refl
-changed-one false l x (held c) = go (elem (c .header .hash) l) (eqb (c .header .hash) x)
-  where
-    go : (u v : Bool) → (u || v) ≡ (v || u)
-    go true true = refl
-    go true false = refl
-    go false true = refl
-    go false false = refl
+changed-one false l x (held c) = or-swap (elem (c .header .hash) l) (eqb (c .header .hash) x)
 
 pub newest-start : (m : List ℕ) (n k : ℕ) → NewestAdded m m n k 0
 newest-start m n k =

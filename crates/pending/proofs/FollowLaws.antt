@@ -8,12 +8,11 @@ use native.Mathlib.Omega.{arith}
 use lib.Dec.{eqb}
 use lib.ListN.{length}
 use borrow.Author.Tests.{eqb-true, eqb-false, eq-eqb}
-use Rattle.model.specs.Holding.{Cell, free, held, isLive}
+use Rattle.model.specs.Holding.{held, isLive}
 use Rattle.model.specs.Lists.{elem}
 use Rattle.model.specs.Relink.{Pending, follows}
 use Rattle.model.proofs.Tools.{byBool, no-both, or-none}
 use Rattle.hash.specs.Hashes.{limb}
-use Rattle.hash.proofs.HashLaws.{Words}
 use Rattle.block.specs.Words.{quad, hashOf, headerOf}
 use Rattle.memory.specs.Words.{word, seg}
 use Rattle.memory.specs.Layout.{row, byPrev, Laid}
@@ -30,7 +29,7 @@ use Rattle.state.specs.Sound.{Used, SoundAt}
 use Rattle.state.proofs.FindLaws.{used-is, free-is}
 use Rattle.pending.specs.Pending.{Pends, PendOnly, Turns}
 use Rattle.pending.proofs.PendLaws.{pend-same, pend-then, pends-same, and-false}
-use Rattle.pending.proofs.TurnLaws.{pend-sound, pend-cell, LiveOne, both}
+use Rattle.pending.proofs.TurnLaws.{pend-sound, pend-cell, LiveOne, or-swap, both}
 
 -- ---- keys and hashes ----
 
@@ -114,15 +113,9 @@ none-seen : (b l : Bool) (q : ℕ) → b ≡ (b || (elem q [] && l))
 unfolding elem
 none-seen b l q = sym (or-none b)
 
-either : (u v : Bool) → (u || v) ≡ (v || u)
-either true true = refl
-either true false = refl
-either false true = refl
-either false false = refl
-
 one-more : (seen : List ℕ) (b l : Bool) (q x : ℕ) → ((b || (elem q seen && l)) || (eqb q x && l)) ≡ (b || (elem q (x ∷ seen) && l))
 unfolding elem
-one-more seen b l q x = both b l (elem q seen) (eqb q x) (elem q (x ∷ seen)) (either (elem q seen) (eqb q x))
+one-more seen b l q x = both b l (elem q seen) (eqb q x) (elem q (x ∷ seen)) (or-swap (elem q seen) (eqb q x))
 
 pub follow-start : (m : List ℕ) (n a b c d x : ℕ) → Laid m n → Seeks m n (byPrev n) (keyAt m 72 false) (byPrev n + d % n) (quad a b c d) x → Following m m n (quad a b c d) x 0
 follow-start m n a b c d x laid f = record {

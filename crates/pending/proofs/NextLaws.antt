@@ -1,14 +1,13 @@
 -- The turn of a place, and the place whose turn is next, in the model's words.
 use mathlib.Core.Path.{_≡_, refl, sym, ap, _∙_}
-use mathlib.Core.Bool.{Bool, true, false, _&&_, _||_}
+use mathlib.Core.Bool.{true, false, _&&_}
 use mathlib.Core.List.{List}
 use mathlib.Core.Option.{Option, none, some}
 use Prim.Native.Nat.{ℕ, _+_, _≤_, _<_}
 use native.Mathlib.Omega.{arith}
 use lib.Dec.{eqb, ltb}
-use borrow.Author.Tests.{eqb-true, eqb-false, ltb-true, ltb-false, eq-eqb}
-use Rattle.amount.specs.Choose.{_if_else_}
-use Rattle.model.specs.Places.{pick, thenBy}
+use borrow.Author.Tests.{ltb-true, ltb-false, eq-eqb}
+use Rattle.model.specs.Places.{thenBy}
 use Rattle.model.specs.Holding.{Cell, free, held, isFree, isLive, hashOf, indexOf}
 use Rattle.model.specs.Relink.{Pending, turnOf, goesBefore, next}
 use Rattle.model.proofs.Tools.{byBool, byOption, no-both, or-left, or-right, pick-some, pick-none}
@@ -16,7 +15,7 @@ use Rattle.model.proofs.Order.{next-least}
 use Rattle.block.specs.Words.{headerOf}
 use Rattle.memory.specs.Words.{word}
 use Rattle.memory.specs.Layout.{row}
-use Rattle.rows.specs.Rows.{headerAt, heldAt}
+use Rattle.rows.specs.Rows.{headerAt}
 use Rattle.contest.specs.Tree.{Champion}
 use Rattle.contest.specs.Keys as keys
 use Rattle.contest.specs.Contests as contest

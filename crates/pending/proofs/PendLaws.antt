@@ -2,27 +2,27 @@
 use mathlib.Core.Path.{_≡_, refl, sym, ap, _∙_}
 use mathlib.Core.Bool.{Bool, true, false, not, _&&_, _||_}
 use mathlib.Core.List.{List}
-use Prim.Native.Nat.{ℕ, _+_, _*_, _≤_, _<_}
+use Prim.Native.Nat.{ℕ, _+_, _≤_, _<_}
 use native.Mathlib.Omega.{arith}
 use lib.Dec.{eqb}
 use lib.ListN.{length}
 use borrow.Author.Tests.{eqb-true, eqb-false}
 use Rattle.model.specs.Holding.{Cell}
 use Rattle.model.specs.Relink.{Pending, turnOf}
-use Rattle.model.proofs.Tools.{byBool, no-both, and-left, and-right, or-none}
-use Rattle.memory.specs.Words.{word, Stored, Only}
-use Rattle.memory.specs.Layout.{row, byHash, nodes, Laid}
+use Rattle.model.proofs.Tools.{byBool, no-both, and-left, or-none}
+use Rattle.memory.specs.Words.{word, Stored}
+use Rattle.memory.specs.Layout.{row, nodes, Laid}
 use Rattle.memory.proofs.WordLaws.{stored-same, stored-other, stored-long}
 use Rattle.contest.specs.Tree.{WF}
 use Rattle.contest.specs.Keys.{enters}
 use Rattle.contest.specs.Contests as contest
 use Rattle.contest.specs.Contests.{Updated}
 use Rattle.contest.proofs.KeyLaws.{enters-kept, enters-yes, enters-no}
-use Rattle.contest.proofs.Uses.{Same, SameBut, still, again, one-row}
-use Rattle.state.specs.View.{cellsOf}
-use Rattle.state.specs.Sound.{Used, SoundAt}
+use Rattle.contest.proofs.Uses.{Same, still, again, one-row}
+use Rattle.state.specs.View.{cellsOf, viewAt}
+use Rattle.state.specs.Sound.{Used}
 use Rattle.state.specs.TreeOnly.{TreeOnly}
-use Rattle.state.proofs.ViewLaws.{cell-same, below-same}
+use Rattle.state.proofs.ViewLaws.{cell-same, below-same, view-same}
 use Rattle.state.proofs.TreeSteps.{tree-cells, tree-used}
 use Rattle.pending.specs.Pending.{Pends, PendOnly, Turns}
 
@@ -50,6 +50,17 @@ pend-tree m m′ n laid o = record {
   free = λ a x y. o .after a x;
   rest = λ a x. o .after a (omega arith);
 }
+
+-- .. that the view does not see
+pub pend-view : (m m′ : List ℕ) (n : ℕ) → PendOnly m m′ n → viewAt m′ n ≡ viewAt m n
+pend-view m m′ n o =
+    view-same m m′ n
+    (record {
+      head = λ a x. o .head a (omega arith);
+      values = λ q h k x y z. o .rows q k h (omega arith) (omega arith) z;
+      ring = λ a x. o .after a (omega arith);
+    })
+    (λ q h k l x y. o .rows q k h (omega arith) y (omega arith))
 
 -- ---- the set ----
 
@@ -103,16 +114,14 @@ pub record Struck (m m′ : List ℕ) (n p b : ℕ) : Type 0 where
   pub mark : word m′ (row p + 59) ≡ b
   pub tree : WF n (contest.view m n 2) → WF n (contest.view m′ n 2)
 
-module _ (m m₁ m₂ : List ℕ) (n p a b : ℕ) (laid : Laid m n) (p<n : p < n) (low : 3 ≤ a) (high : a ≤ 59)
-    (only : Only m m₁ (row p + a) (row p + 60)) (past : (i : ℕ) → (i ≡ row p + 3 → ⊥) → (i ≡ row p + 59 → ⊥) → word m₁ i ≡ word m i)
-    (long : length m₁ ≡ length m) (mark : word m₁ (row p + 59) ≡ b) (u : Updated n 2 p m₁ m₂) where
-  pub struck : Struck m m₂ n p b
-  struck = record {
-    long = u .long ∙ long;
-    only = λ i x y z. u .only i (λ v w. z v (omega arith)) ∙ past i x y;
-    mark = u .only (row p + 59) (omega arith) ∙ mark;
-    tree = again m m₁ n 2 m₂ p (one-row m m₁ n 2 p a 60 p<n (omega arith) only) u;
-  }
+struck : (m m₁ m₂ : List ℕ) (n p b : ℕ) → p < n → ((i : ℕ) → (i ≡ row p + 3 → ⊥) → (i ≡ row p + 59 → ⊥) → word m₁ i ≡ word m i)
+    → length m₁ ≡ length m → word m₁ (row p + 59) ≡ b → Updated n 2 p m₁ m₂ → Struck m m₂ n p b
+struck m m₁ m₂ n p b p<n other long mark u = record {
+  long = u .long ∙ long;
+  only = λ i x y z. u .only i (λ v w. z v (omega arith)) ∙ other i x y;
+  mark = u .only (row p + 59) (omega arith) ∙ mark;
+  tree = again m m₁ n 2 m₂ p (one-row m m₁ n 2 p 3 60 p<n (omega arith) (λ i h. other i (λ z. h (omega arith) (omega arith)) (λ z. h (omega arith) (omega arith)))) u;
+}
 
 module _ (m m′ : List ℕ) (n p b : ℕ) (laid : Laid m n) (p<n : p < n) (s : Struck m m′ n p b) where
   pub struck-only : PendOnly m m′ n
@@ -207,17 +216,13 @@ module _ (m m₁ m₂ m₃ : List ℕ) (n p t : ℕ) (laid : Laid m n) (p<n : p 
   add-stores e =
       let l₁ = stored-long s₁ in
       add-done m m₃ n p laid p<n
-      (struck m m₂ m₃ n p 3 1 laid p<n (omega arith) (omega arith)
-      (λ i h. stored-other s₂ i (λ z. h (omega arith) (omega arith)) ∙ stored-other s₁ i (λ z. h (omega arith) (omega arith)))
-      (λ i x y. stored-other s₂ i y ∙ stored-other s₁ i x) (stored-long s₂ ∙ l₁) (stored-same s₂ (omega (arith, laid .fits))) u)
+      (struck m m₂ m₃ n p 1 p<n (λ i x y. stored-other s₂ i y ∙ stored-other s₁ i x) (stored-long s₂ ∙ l₁) (stored-same s₂ (omega (arith, laid .fits))) u)
       (u .only (row p + 3) (omega arith) ∙ stored-other s₂ (row p + 3) (omega arith) ∙ stored-same s₁ (omega (arith, laid .fits)) ∙ e)
 
 module _ (m m₁ m₂ : List ℕ) (n p : ℕ) (laid : Laid m n) (p<n : p < n) (s : Stored m m₁ (row p + 59) 0) (u : Updated n 2 p m₁ m₂) where
   pub drop-stores : Turns m m₂ n (Unit {0}) (λ pend q. pend q && not (eqb q p))
   drop-stores =
-      drop-done m m₂ n p laid p<n
-      (struck m m₁ m₂ n p 59 0 laid p<n (omega arith) (omega arith) (λ i h. stored-other s i (λ z. h (omega arith) (omega arith)))
-      (λ i x y. stored-other s i y) (stored-long s) (stored-same s (omega (arith, laid .fits))) u)
+      drop-done m m₂ n p laid p<n (struck m m₁ m₂ n p 0 p<n (λ i x y. stored-other s i y) (stored-long s) (stored-same s (omega (arith, laid .fits))) u)
 
 pub laid-stored : {m m′ : List ℕ} {n a v : ℕ} → 2 ≤ a → Stored m m′ a v → Laid m n → Laid m′ n
 laid-stored {m} {m′} {n} {a} {v} h s laid =

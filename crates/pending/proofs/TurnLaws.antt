@@ -5,7 +5,7 @@ use mathlib.Core.List.{List}
 use Prim.Native.Nat.{ℕ, _+_, _≤_, _<_}
 use native.Mathlib.Omega.{arith}
 use lib.Dec.{eqb, ltb}
-use borrow.Author.Tests.{eqb-true, eqb-false, eq-eqb, ne-eqb, ltb-true, ltb-false, lt-ltb, le-ltb}
+use borrow.Author.Tests.{eqb-true, eqb-false, ltb-true, ltb-false, lt-ltb, le-ltb}
 use Rattle.model.specs.Holding.{Cell, isLive}
 use Rattle.model.specs.Relink.{Pending}
 use Rattle.model.proofs.Tools.{byBool, or-none}
@@ -13,7 +13,7 @@ use Rattle.memory.specs.Layout.{Laid}
 use Rattle.state.specs.View.{cellsOf}
 use Rattle.state.specs.Sound.{Used, SoundAt}
 use Rattle.state.proofs.TreeSteps.{tree-cells, tree-laid, tree-sound}
-use Rattle.pending.specs.Pending.{Pends, PendOnly, Turns}
+use Rattle.pending.specs.Pending.{PendOnly, Turns}
 use Rattle.pending.proofs.PendLaws.{pend-same, pend-then, pend-tree, pends-same}
 use Rattle.pending.proofs.NextLaws.{live-used}
 
@@ -73,6 +73,12 @@ LiveBelow m m′ n i = Turns m m′ n (Unit {0}) (λ pend q. pend q || (ltb q i 
 pub live-start : (m : List ℕ) (n : ℕ) → LiveBelow m m n 0
 live-start m n =
     turns-none m n (Unit {0}) (λ pend q. pend q || (ltb q 0 && isLive (cellsOf m n q))) (λ s u pend q h. rw (le-ltb q 0 (omega arith)) (sym (or-none (pend q))))
+
+pub or-swap : (u v : Bool) → (u || v) ≡ (v || u)
+or-swap true true = refl
+or-swap true false = refl
+or-swap false true = refl
+or-swap false false = refl
 
 -- a test by two, as tests of each
 pub both : (a l u v w : Bool) → (u || v) ≡ w → ((a || (u && l)) || (v && l)) ≡ (a || (w && l))

@@ -1,5 +1,5 @@
 -- Document 01, "Standing in the tree": the places to be worked out, as the contest of turns holds them, and what the steps of that contest promise.
-use mathlib.Core.Bool.{Bool, true}
+use mathlib.Core.Bool.{true}
 use mathlib.Core.List.{List}
 use mathlib.Core.Path.{_≡_}
 use Prim.Native.Nat.{ℕ, _+_, _≤_, _<_}

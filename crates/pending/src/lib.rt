@@ -78,7 +78,18 @@ pub fn follow(mem: &mut [u64], n: usize, p: usize)
             return;
         }
         add_if_live(mem, n, x);
-        x = index::seek(mem, n, 64 + 71 * n, 72, false, 64 + 71 * n + n + x, h.a, h.b, h.c, h.d);
+        x = index::seek(
+            mem,
+            n,
+            64 + 71 * n,
+            72,
+            false,
+            64 + 71 * n + n + x,
+            h.a,
+            h.b,
+            h.c,
+            h.d,
+        );
         i += 1;
     }
 }

@@ -25,6 +25,7 @@ use Rattle.state.specs.Sound.{Used}
 use Rattle.state.proofs.ViewLaws.{header-same}
 use Rattle.state.proofs.FindLaws.{used-is, cell-used}
 use Rattle.kin.specs.Kin.{linkedAt, upAt, kidsAt, isListed, leafAt, Leaves, Kin}
+use Rattle.pending.specs.Pending.{PendOnly}
 use Rattle.kin.proofs.RelinkLaws.{count-agree}
 use Rattle.relink.specs.Treed.{Above, Treed, TreedWords}
 
@@ -46,18 +47,44 @@ names-both free d e = no-both false e refl
 names-both (held c) free e = no-both false e refl
 names-both (held c) (held d) e = (refl, refl)
 
-module _ (m m′ : List ℕ) (n : ℕ) (laid : Laid m n) (t : Treed m n) (w : TreedWords m m′ n) where
-  linked-same : (q : ℕ) → q < n → linkedAt m′ q ≡ linkedAt m q
-  linked-same q h = enters-kept m m′ 0 q (w .rows q 56 h (omega arith) (omega arith) (λ i. omega arith))
+-- children and leaves are read off words 56, 64, 66 and 67 of rows and the roster of leaves
+module _ (m m′ : List ℕ) (n : ℕ) (size : word m′ 14 ≡ word m 14)
+    (rows : (q k : ℕ) → q < n → 56 ≤ k → k < 68 → (59 ≤ k → k < 64 → ⊥) → word m′ (row q + k) ≡ word m (row q + k))
+    (list : (a : ℕ) → leavesAt n ≤ a → a < vacantAt n → word m′ a ≡ word m a) where
+  pub linked-same : (q : ℕ) → q < n → linkedAt m′ q ≡ linkedAt m q
+  linked-same q h = enters-kept m m′ 0 q (rows q 56 h (omega arith) (omega arith) (λ x y. omega arith))
 
+  pub up-same : (q : ℕ) → q < n → upAt m′ q ≡ upAt m q
+  up-same q h = rows q 67 h (omega arith) (omega arith) (λ x y. omega arith)
+
+  kids-same : (q : ℕ) → q < n → kidsAt m′ q ≡ kidsAt m q
+  kids-same q h = rows q 64 h (omega arith) (omega arith) (λ x y. omega arith)
+
+  pub kin-frame : Kin m n → Kin m′ n
+  kin-frame k = record {
+    counts = λ q h. kids-same q h ∙ k .counts q h ∙ count-agree (λ p. linkedAt m p && eqb (upAt m p) q) (λ p. linkedAt m′ p && eqb (upAt m′ p) q) n (λ p l. rw (linked-same p l, up-same p l));
+    roster = roster-frame m m′ n (leavesAt n) 14 130 size (λ i h. list (leavesAt n + i) (omega arith) (omega arith)) position (k .roster);
+    leaf = λ q h. roster-same m m′ n (leavesAt n) 14 130 size (λ i l. list (leavesAt n + i) (omega arith) (omega arith)) position q h ∙ k .leaf q h ∙ (let a = linked-same q h in let b = kids-same q h in rw (a, b));
+  }
+    where
+      position : (q : ℕ) → q < n → word m′ (130 + 68 * q) ≡ word m (130 + 68 * q)
+      position q h = let z : 130 + 68 * q ≡ row q + 66 = omega arith in rw z (rows q 66 h (omega arith) (omega arith) (λ x y. omega arith))
+
+module _ (m m′ : List ℕ) (n : ℕ) (laid : Laid m n) (t : Treed m n) (w : TreedWords m m′ n) where
   canonical-same : (q : ℕ) → q < n → enters m′ 1 q ≡ enters m 1 q
   canonical-same q h = enters-kept m m′ 1 q (w .rows q 60 h (omega arith) (omega arith) (λ i. omega arith))
 
-  up-same : (q : ℕ) → q < n → upAt m′ q ≡ upAt m q
-  up-same q h = w .rows q 67 h (omega arith) (omega arith) (λ i. omega arith)
+  tail : (q k : ℕ) → q < n → 56 ≤ k → k < 68 → (59 ≤ k → k < 64 → ⊥) → word m′ (row q + k) ≡ word m (row q + k)
+  tail q k h x y z = w .rows q k h x y (λ e. z (omega arith) (omega arith))
 
-  kids-same : (q : ℕ) → q < n → kidsAt m′ q ≡ kidsAt m q
-  kids-same q h = w .rows q 64 h (omega arith) (omega arith) (λ i. omega arith)
+  list : (a : ℕ) → leavesAt n ≤ a → a < vacantAt n → word m′ a ≡ word m a
+  list a x y = w .leaves a (omega arith) y
+
+  linked-kept : (q : ℕ) → q < n → linkedAt m′ q ≡ linkedAt m q
+  linked-kept = linked-same m m′ n (w .size) tail list
+
+  up-kept : (q : ℕ) → q < n → upAt m′ q ≡ upAt m q
+  up-kept = up-same m m′ n (w .size) tail list
 
   header-kept : (q : ℕ) → q < n → Used m q → headerAt m′ (row q + 4) ≡ headerAt m (row q + 4)
   header-kept q h u = header-same m m′ (row q + 4) (λ a x y. let f : (k : ℕ) → a ≡ row q + k → word m′ a ≡ word m a = λ k e. rw e (w .headers q k h u (omega arith) (omega arith)) in f (a - row q) (omega arith))
@@ -104,28 +131,16 @@ module _ (m m′ : List ℕ) (n : ℕ) (laid : Laid m n) (t : Treed m n) (w : Tr
     keys = λ q h e. no-both true refl (sym e ∙ t .unlisted q h);
   }
 
-  -- ---- children and leaves ----
-
-  kin-same : Kin m′ n
-  kin-same = record {
-    counts = λ q h. kids-same q h ∙ t .kin .counts q h ∙ count-agree (λ p. linkedAt m p && eqb (upAt m p) q) (λ p. linkedAt m′ p && eqb (upAt m′ p) q) n (λ p l. rw (linked-same p l, up-same p l));
-    roster = roster-frame m m′ n (leavesAt n) 14 130 (w .size) (λ i h. w .leaves (leavesAt n + i) (omega arith) (omega arith)) position (t .kin .roster);
-    leaf = λ q h. roster-same m m′ n (leavesAt n) 14 130 (w .size) (λ i l. w .leaves (leavesAt n + i) (omega arith) (omega arith)) position q h ∙ t .kin .leaf q h ∙ (let a = linked-same q h in let b = kids-same q h in rw (a, b));
-  }
-    where
-      position : (q : ℕ) → q < n → word m′ (130 + 68 * q) ≡ word m (130 + 68 * q)
-      position q h = let z : 130 + 68 * q ≡ row q + 66 = omega arith in rw z (w .rows q 66 h (omega arith) (omega arith) (λ i. omega arith))
-
   -- ---- parents ----
 
   above-same : (p : ℕ) → p < n → linkedAt m′ p ≡ true → Above m′ n p
   above-same p h e = record {
-    named = λ l. rw (up-same p h) (named (rw (up-same p h) at l));
-    root = λ l. index-used m′ n p h here ∙ ap (λ (x : Header). x .index) (header-kept p h (t .linked p h was)) ∙ sym (index-used m n p h (t .linked p h was)) ∙ t .above p h was .root (rw (up-same p h) at l);
+    named = λ l. rw (up-kept p h) (named (rw (up-kept p h) at l));
+    root = λ l. index-used m′ n p h here ∙ ap (λ (x : Header). x .index) (header-kept p h (t .linked p h was)) ∙ sym (index-used m n p h (t .linked p h was)) ∙ t .above p h was .root (rw (up-kept p h) at l);
   }
     where
       was : linkedAt m p ≡ true
-      was = sym (linked-same p h) ∙ e
+      was = sym (linked-kept p h) ∙ e
 
       here : Used m′ p
       here = w .linked p h was
@@ -141,10 +156,31 @@ module _ (m m′ : List ℕ) (n : ℕ) (laid : Laid m n) (t : Treed m n) (w : Tr
   treed-frame = record {
     winners = still m m′ n 0 (laid .few) (rank-words 0 (omega arith)) (t .winners);
     canonicals = still m m′ n 1 (laid .few) (rank-words 1 (omega arith)) (t .canonicals);
-    kin = kin-same;
-    linked = λ p h e. w .linked p h (sym (linked-same p h) ∙ e);
+    kin = kin-frame m m′ n (w .size) tail list (t .kin);
+    linked = λ p h e. w .linked p h (sym (linked-kept p h) ∙ e);
     canonical = λ p h e. w .canonical p h (sym (canonical-same p h) ∙ e);
     above = above-same;
     lists = still m m′ n 4 (laid .few) list-words (t .lists);
     unlisted = λ q h. enters-kept m m′ 4 q (w .rows q 63 h (omega arith) (omega arith) (λ i. omega arith)) ∙ t .unlisted q h;
   }
+
+-- the parent of a linked place has room
+pub parent-used : (m : List ℕ) (n : ℕ) → Treed m n → (q : ℕ) → q < n → linkedAt m q ≡ true → upAt m q < n → Used m (upAt m q)
+parent-used m n t q h e l = cell-used m n (upAt m q) (names-both (cellsOf m n q) (cellsOf m n (upAt m q)) (t .above q h e .named l) .1) .1
+
+-- steps of the contest of turns leave all of it
+pub pend-words : (m m′ : List ℕ) (n : ℕ) → Treed m n → PendOnly m m′ n → TreedWords m m′ n
+pend-words m m′ n t o = record {
+  long = o .long;
+  size = o .head 14 (omega arith);
+  rows = λ q k h x y z. o .rows q k h y (λ e. omega arith) z;
+  headers = λ q k h u x y. o .rows q k h (omega arith) (λ e. omega arith) (λ e. omega arith);
+  ranks = λ a x y. o .before a (omega arith) y;
+  leaves = λ a x y. o .after a (omega arith);
+  linked = λ q h e. used q h (t .linked q h e);
+  canonical = λ q h e. used q h (t .canonical q h e);
+  parents = λ q h e l. used (upAt m q) l (parent-used m n t q h e l);
+}
+  where
+    used : (q : ℕ) → q < n → Used m q → Used m′ q
+    used q h u = let z : row q + 0 ≡ row q = omega arith in let e : word m′ (row q + 0) ≡ word m (row q + 0) = o .rows q 0 h (omega arith) (λ e. omega arith) (λ e. omega arith) in (rw z at e) ∙ u

@@ -1,2 +1,4 @@
 -- What a sync keeps of the tree, and what its turns do to it.
 pub mod Treed
+pub mod Turned
+pub mod Gathers

@@ -1,8 +1,7 @@
 -- `pending::add` meets its contract.
-use mathlib.Core.Path.{refl, _∙_}
+use mathlib.Core.Path.{refl}
 use native.Mathlib.Omega.{arith}
 use lib.ListN.{length-set}
-use Rattle.memory.proofs.WordLaws.{stored-long}
 use Rattle.pending.proofs.PendLaws.{add-stores, laid-stored}
 use borrow.Author.Needs.{needs}
 use Rattle.pending.proofs.add.Statement.{statement}
@@ -21,9 +20,7 @@ returns c =
     add-stores _ _ _ _ _ _ _ (p .0) (p .1) (record { now-is = refl }) (record { now-is = refl }) (c .before .before .update .ensures) (c .before .before .before .before .turn .ensures)
 
 same-length : tie.Need-same-length
-same-length c =
-    let p = c .before .before .before .before .before .before .before .pre in
-    add-stores _ _ _ _ _ _ _ (p .0) (p .1) (record { now-is = refl }) (record { now-is = refl }) (c .before .before .update .ensures) (c .before .before .before .before .turn .ensures) .only .long
+same-length c = returns c .only .long
 
 pub add-spec : {M : Type 1} → statement M
 add-spec =

@@ -1,6 +1,5 @@
 -- `pending::add_if_live` meets its contract.
 use mathlib.Core.Path.{sym, _∙_}
-use denote.Ref.{now}
 use Rattle.pending.proofs.TurnLaws.{one-live, one-not}
 use borrow.Author.Needs.{needs}
 use Rattle.pending.proofs.add_if_live.Statement.{statement}

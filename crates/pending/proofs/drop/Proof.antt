@@ -1,7 +1,6 @@
 -- `pending::drop` meets its contract.
-use mathlib.Core.Path.{refl, _∙_}
+use mathlib.Core.Path.{refl}
 use native.Mathlib.Omega.{arith}
-use Rattle.memory.proofs.WordLaws.{stored-long}
 use Rattle.pending.proofs.PendLaws.{drop-stores, laid-stored}
 use borrow.Author.Needs.{needs}
 use Rattle.pending.proofs.drop.Statement.{statement}
@@ -16,9 +15,7 @@ returns c =
     drop-stores _ _ _ _ _ (p .0) (p .1) (record { now-is = refl }) (c .before .before .update .ensures)
 
 same-length : tie.Need-same-length
-same-length c =
-    let p = c .before .before .before .before .before .pre in
-    drop-stores _ _ _ _ _ (p .0) (p .1) (record { now-is = refl }) (c .before .before .update .ensures) .only .long
+same-length c = returns c .only .long
 
 pub drop-spec : {M : Type 1} → statement M
 drop-spec =

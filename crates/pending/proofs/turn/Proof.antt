@@ -1,6 +1,5 @@
 -- `pending::turn` meets its contract.
 use mathlib.Core.Path.{sym, _∙_}
-use native.Mathlib.Omega.{arith}
 use denote.Ref.{now}
 use Rattle.pending.proofs.NextLaws.{turn-live, turn-other}
 use borrow.Author.Needs.{needs}
