@@ -7,6 +7,7 @@ pub mod coverage;
 pub mod domain;
 pub mod generate;
 pub mod judge;
+pub mod library;
 pub mod record;
 pub mod shrink;
 pub mod texts;

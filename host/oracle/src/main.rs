@@ -1,17 +1,18 @@
 //! oracle: histories on the original and on the reading of document 01.
 use oracle::check::{before, first_difference, program_differs};
 use oracle::compare::{compare, cover, describe, differs, profiles_or_all, Compared};
-use oracle::generate::{generate, overrun, PROFILES};
+use oracle::generate::{generate, overrun, HOLDINGS, PROFILES};
 use oracle::judge::{at_hand, Answered, Judge, NOT_AT_HAND};
+use oracle::library;
 use oracle::shrink::shrink;
 use std::io::{Read, Write};
 
-const USAGE: &str = "oracle run [--sweep] < history > answers
+const USAGE: &str = "oracle run [--sweep | --library] < history > answers
 oracle gen SEED [PROFILE] > history
 oracle check HISTORY ANSWERS
 oracle shrink HISTORY [PROGRAM ARGS..] > smaller history
 oracle fuzz FROM TO PROGRAM [ARGS..]
-oracle compare --histories N --seed S [--profile P]
+oracle compare [--library] --histories N --seed S [--profile P]
 oracle cover FROM TO [PROFILE..]
 oracle record FOLDER
 oracle texts > texts
@@ -23,12 +24,14 @@ fn main() {
     let ok = match args[..] {
         ["run"] => run(false),
         ["run", "--sweep"] => run(true),
+        ["run", "--library"] => run_library(),
         ["gen", _, "overrun"] => print_all(&overrun()),
         ["gen", seed] => print_history(seed, "mixed"),
         ["gen", seed, profile] => print_history(seed, profile),
         ["check", history, answers] => check(&read_file(history), &read_file(answers)),
         ["shrink", history, ref program @ ..] => print_small(&read_file(history), program),
         ["fuzz", from, to, ref program @ ..] if !program.is_empty() => fuzz(number(from), number(to), program),
+        ["compare", "--library", ref options @ ..] => print_library(options),
         ["compare", ref options @ ..] => print_compared(options),
         ["cover", from, to, ref profiles @ ..] => print_cover(number(from), number(to), profiles),
         ["record", folder] => print_recorded(folder),
@@ -40,7 +43,7 @@ fn main() {
 }
 
 fn usage() -> ! {
-    eprintln!("{USAGE}\nprofiles: {} (default mixed), overrun", PROFILES.join(" "));
+    eprintln!("{USAGE}\nprofiles: {} {HOLDINGS} (default mixed), overrun", PROFILES.join(" "));
     std::process::exit(2)
 }
 
@@ -74,6 +77,16 @@ fn run(sweep: bool) -> bool {
     let (judge, answered) = Judge::run(&read_input(), sweep);
     let answers: String = answered.iter().map(|one| format!("{}\n", one.answer)).collect();
     print_all(&answers) && tell(&judge, &answered)
+}
+
+/// The library's answers, up to the first call that it lacks and that changes
+/// something.
+fn run_library() -> bool {
+    if !cadraspes::linked() {
+        eprintln!("{}", cadraspes::NOT_LINKED);
+        return false;
+    }
+    print_all(&library::answers(&read_input()))
 }
 
 fn tell(judge: &Judge, answered: &[Answered]) -> bool {
@@ -131,21 +144,46 @@ fn fuzz(from: u64, to: u64, program: &[&str]) -> bool {
     true
 }
 
-fn print_compared(options: &[&str]) -> bool {
+/// How many histories, from which seed, of which profiles.
+fn compare_options<'a>(options: &[&'a str]) -> (u64, u64, Vec<&'a str>) {
     let (mut histories, mut seed, mut profiles) = (1000, 0, Vec::new());
     for option in options.chunks(2) {
         match option {
             ["--histories", count] => histories = number(count),
             ["--seed", from] => seed = number(from),
-            ["--profile", profile] if PROFILES.contains(profile) => profiles.push(*profile),
+            ["--profile", profile] if PROFILES.contains(profile) || *profile == HOLDINGS => profiles.push(*profile),
             _ => usage(),
         }
     }
+    (histories, seed, profiles)
+}
+
+fn print_compared(options: &[&str]) -> bool {
+    let (histories, seed, profiles) = compare_options(options);
     if !at_hand() {
         return print_all(&format!("{NOT_AT_HAND}\n"));
     }
     let progress = |so_far: &Compared| eprintln!("{}", so_far.summary());
     let compared = compare(histories, seed, &profiles_or_all(&profiles), &progress);
+    println!("{}", compared.summary());
+    print_all(compared.difference.as_deref().unwrap_or("")) && compared.difference.is_none()
+}
+
+/// The library against the original and the reading.
+fn print_library(options: &[&str]) -> bool {
+    let (histories, seed, mut profiles) = compare_options(options);
+    if !cadraspes::linked() {
+        eprintln!("{}", cadraspes::NOT_LINKED);
+        return false;
+    }
+    if !at_hand() {
+        eprintln!("{NOT_AT_HAND}");
+    }
+    if profiles.is_empty() {
+        profiles.push(HOLDINGS);
+    }
+    let progress = |so_far: &library::Compared| eprintln!("{}", so_far.summary());
+    let compared = library::compare(histories, seed, &profiles, library::library, &progress);
     println!("{}", compared.summary());
     print_all(compared.difference.as_deref().unwrap_or("")) && compared.difference.is_none()
 }

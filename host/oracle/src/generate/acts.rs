@@ -92,9 +92,26 @@ impl Gen {
             let named = self.rng.pick(&named);
             self.emit(format!("changes {named} {at}"));
         }
+        if !self.p.tree && self.rng.percent(15) {
+            self.ask_holdings();
+        }
         let name = self.name();
         let line = self.rng.pick(&[format!("effective {name}"), "count".into(), "generation".into(), "version".into()]);
         self.emit(line);
+    }
+
+    /// Changes since every version of late and what every name holds.
+    pub(super) fn ask_holdings(&mut self) {
+        let (generation, version) = (self.holding().generation, self.holding().version);
+        for back in 0..=self.holding().journal_room.min(12) + 1 {
+            self.emit(format!("changes {generation} {}", version.saturating_sub(back)));
+        }
+        for name in self.heads.keys().copied().collect::<Vec<Hash>>() {
+            self.emit(format!("effective {name}"));
+        }
+        for ask in ["count", "generation", "version"] {
+            self.emit(ask);
+        }
     }
 
     pub(super) fn plan_any(&mut self) {
@@ -176,7 +193,7 @@ impl Gen {
         for _ in 0..1 + self.rng.below(3) {
             let (a, b) = (self.amounts().1, self.amounts().1);
             let (a, b) = (self.respell(&a), self.respell(&b));
-            if self.rng.percent(30) {
+            if !self.p.tree || self.rng.percent(30) {
                 self.emit(format!("amount \"{a}\""));
                 continue;
             }

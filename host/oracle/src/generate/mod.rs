@@ -15,7 +15,7 @@ use reading::{Holding, View};
 use rng::Rng;
 use std::collections::BTreeMap;
 
-pub use profile::PROFILES;
+pub use profile::{HOLDINGS, PROFILES};
 
 struct Gen {
     rng: Rng,
@@ -39,7 +39,7 @@ pub fn generate(seed: u64, name: &str) -> Option<String> {
     let mut rng = Rng::new(seed, name);
     let p = profile::profile(name, &mut rng)?;
     let mut pool: Vec<Hash> = (0..p.pool).map(small_name).collect();
-    if name == "mixed" && rng.percent(30) {
+    if (name == "mixed" || name == HOLDINGS) && rng.percent(30) {
         pool.extend(far_names());
     }
     let n = 1 + rng.below(4);
@@ -182,6 +182,9 @@ impl Gen {
     }
 
     fn closing(&mut self) {
+        if !self.p.tree {
+            return self.ask_holdings();
+        }
         self.sync();
         self.ask_all();
         self.plan(true);
@@ -205,6 +208,9 @@ impl Gen {
 
     /// Gives again what the domain asks for, then syncs.
     fn sync(&mut self) {
+        if !self.p.tree {
+            return;
+        }
         while let Some((hash, value)) = self.watched.domain.lost(self.holding()) {
             self.emit(format!("answer {hash} {value}"));
         }

@@ -58,9 +58,14 @@ pub struct Profile {
     pub late: bool,
     /// A starting version above 0.
     pub versions: u64,
+    /// The tree is synced and asked; else the holdings alone.
+    pub tree: bool,
     /// Calls, at most.
     pub calls: u64,
 }
+
+/// The profile of histories that never sync.
+pub const HOLDINGS: &str = "holdings";
 
 pub const PROFILES: [&str; 15] = [
     "tidy", "untidy", "journal", "sums", "answers", "late", "room", "reload", "plans", "ties", "copies", "edges",
@@ -88,6 +93,7 @@ const BASE: Profile = Profile {
     ineligible: 25,
     late: false,
     versions: 0,
+    tree: true,
     calls: 400,
 };
 
@@ -142,6 +148,7 @@ pub fn profile(name: &str, rng: &mut Rng) -> Option<Profile> {
         }
         "tiny" => tiny(rng),
         "mixed" => mixed(rng),
+        HOLDINGS => holdings(rng),
         _ => return None,
     })
 }
@@ -191,7 +198,31 @@ fn mixed(rng: &mut Rng) -> Profile {
         ineligible: rng.below(50),
         late: rng.percent(25),
         versions: 20,
+        tree: true,
         calls: 400,
+    }
+}
+
+/// Tiny rooms, journals that run over and versions near the top; no sync, so
+/// room is freed by a reload alone.
+fn holdings(rng: &mut Rng) -> Profile {
+    Profile {
+        weights: [26, 22, 24, 12, 0, 0, 0, 0, 0, 3, 26, 2, 16],
+        pool: rng.pick(&[2, 5, 9, 14, 40]),
+        hashes: rng.pick(&[1, 2, 6, 12, 64, 64]),
+        journal: rng.pick(&[1, 1, 2, 3, 8, 40, 0]),
+        first: rng.below(9),
+        odd: 20,
+        orphaned: 20,
+        sums: rng.pick(&[0, 10, 40]),
+        respell: 30,
+        copies: rng.pick(&[5, 40]),
+        edges: rng.pick(&[2, 30]),
+        answered: 20,
+        ineligible: 40,
+        versions: 40,
+        tree: false,
+        ..BASE
     }
 }
 

@@ -28,7 +28,7 @@ impl Gen {
             }
             9 => drop(self.emit(format!("answer {name} {bad_store}"))),
             10 | 11 => self.other_final(),
-            12 if !self.holding().fresh => self.stale(name),
+            12 if self.p.tree && !self.holding().fresh => self.stale(name),
             _ => self.short_list(),
         }
     }
@@ -92,6 +92,7 @@ impl Gen {
         self.emit(format!("lend {lend}"));
         for _ in 0..1 + self.rng.below(3) {
             match self.rng.below(4) {
+                _ if !self.p.tree => self.holdings(),
                 0 => drop(self.emit("leaves")),
                 1 => self.holdings(),
                 _ => drop(self.plan(lend.is_multiple_of(2))),

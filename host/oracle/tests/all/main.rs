@@ -4,6 +4,7 @@ mod common;
 mod comparison;
 mod either_side;
 mod judge;
+mod library;
 mod program;
 mod recorded;
 mod refusals;

@@ -6,14 +6,14 @@ use oracle::record::histories;
 use std::collections::BTreeSet;
 use std::path::{Path, PathBuf};
 
-fn all() -> Vec<PathBuf> {
+pub fn all() -> Vec<PathBuf> {
     let folder = Path::new(env!("CARGO_MANIFEST_DIR")).join("../../histories");
     let files = histories(&folder).expect("histories/ lies beside host/");
     assert!(files.len() > 100, "only {} histories in {}", files.len(), folder.display());
     files
 }
 
-fn text(file: &Path) -> String {
+pub fn text(file: &Path) -> String {
     std::fs::read_to_string(file).unwrap_or_else(|error| panic!("{}: {error}", file.display()))
 }
 

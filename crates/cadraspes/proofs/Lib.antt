@@ -1,0 +1,5 @@
+-- What the proofs of several functions use.
+mod CallLaws
+mod RecordLaws
+mod ToldLaws
+mod ShownLaws

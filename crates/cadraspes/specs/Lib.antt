@@ -1,0 +1,3 @@
+-- What the bytes and words that cross to a host mean.
+pub mod Lent
+pub mod Told

@@ -1,0 +1,148 @@
+// The library that a host links: the calls of document 01 as functions of C, on numbers and slices. A call gives back document 01's
+// number, 0 or a refusal; a question writes its answer into words that the host lends, and a refusal leaves them as they were.
+ghost use mathlib.Core.Path.{_≡_};
+ghost use Rattle.amount.specs.Amounts.{reading};
+ghost use Rattle.cadraspes.specs.Lent.{blockMeant};
+ghost use Rattle.cadraspes.specs.Told.{AmountTold, Counts, Lists, Shows};
+ghost use Rattle.clearing.specs.Calls.{Reloads, Starts};
+ghost use Rattle.hash.specs.Digits.{bytesNumber};
+ghost use Rattle.model.specs.Numbers as numbers;
+ghost use Rattle.model.specs.Questions.{effectiveCountQ, effectiveQ, generationQ, versionQ};
+ghost use Rattle.state.specs.Moves as moves;
+
+mod records;
+mod telling;
+
+// ---- calls ----
+
+#[no_mangle]
+pub extern "C" fn cadraspes_start(
+    mem: &mut [u64],
+    hashes: u64,
+    journal: u64,
+    generation: u64,
+    version: u64,
+) -> u64
+    ensures { λ r. ⌜ Starts hashes journal generation version (now (mem .entry)) (now (mem .exit)) r ⌝ }
+{
+    block::numbers::done_number(clearing::start(mem, hashes, journal, generation, version))
+}
+
+#[no_mangle]
+pub extern "C" fn cadraspes_reload(mem: &mut [u64], generation: u64, version: u64) -> u64
+    ensures { λ r. ⌜ Reloads generation version (now (mem .entry)) (now (mem .exit)) r ⌝ }
+{
+    block::numbers::done_number(clearing::reload(mem, generation, version))
+}
+
+#[no_mangle]
+pub extern "C" fn cadraspes_load(
+    mem: &mut [u64],
+    store: u64,
+    hash: &[u8; 32],
+    index: u64,
+    epoch: u64,
+    prev: &[u8; 32],
+    target: &[u8],
+    actual: &[u8],
+    copy: &[u64; 12],
+) -> u64
+    ensures { λ r. ⌜ moves.Done (numbers.load store (blockMeant (now (hash .entry)) index epoch (now (prev .entry)) (now (target .entry)) (now (actual .entry)) (now (copy .entry)))) (now (mem .entry)) (now (mem .exit)) r ⌝ }
+{
+    let b = records::block_from(hash, index, epoch, prev, target, actual, copy);
+    block::numbers::done_number(holdings::load(mem, store, b))
+}
+
+#[no_mangle]
+pub extern "C" fn cadraspes_put(
+    mem: &mut [u64],
+    store: u64,
+    hash: &[u8; 32],
+    index: u64,
+    epoch: u64,
+    prev: &[u8; 32],
+    target: &[u8],
+    actual: &[u8],
+    copy: &[u64; 12],
+) -> u64
+    ensures { λ r. ⌜ moves.Done (numbers.put store (blockMeant (now (hash .entry)) index epoch (now (prev .entry)) (now (target .entry)) (now (actual .entry)) (now (copy .entry)))) (now (mem .entry)) (now (mem .exit)) r ⌝ }
+{
+    let b = records::block_from(hash, index, epoch, prev, target, actual, copy);
+    block::numbers::done_number(holdings::put(mem, store, b))
+}
+
+#[no_mangle]
+pub extern "C" fn cadraspes_remove(mem: &mut [u64], store: u64, hash: &[u8; 32]) -> u64
+    ensures { λ r. ⌜ moves.Done (numbers.remove store (bytesNumber (now (hash .entry)))) (now (mem .entry)) (now (mem .exit)) r ⌝ }
+{
+    let h = hash::from_bytes(hash);
+    block::numbers::done_number(holdings::remove(mem, store, h))
+}
+
+#[no_mangle]
+pub extern "C" fn cadraspes_answer(mem: &mut [u64], hash: &[u8; 32], answer: u64) -> u64
+    ensures { λ r. ⌜ moves.Done (numbers.answer (bytesNumber (now (hash .entry))) answer) (now (mem .entry)) (now (mem .exit)) r ⌝ }
+{
+    let h = hash::from_bytes(hash);
+    block::numbers::done_number(holdings::answer(mem, h, answer))
+}
+
+// ---- questions ----
+
+#[no_mangle]
+pub extern "C" fn cadraspes_generation(mem: &[u64], out: &mut u64) -> u64
+    ensures { λ r. ⌜ Counts generationQ (now (mem .entry)) (now (out .entry)) (now (out .exit)) r ⌝ }
+{
+    telling::tell_count(holdings::generation(mem), out)
+}
+
+#[no_mangle]
+pub extern "C" fn cadraspes_version(mem: &[u64], out: &mut u64) -> u64
+    ensures { λ r. ⌜ Counts versionQ (now (mem .entry)) (now (out .entry)) (now (out .exit)) r ⌝ }
+{
+    telling::tell_count(holdings::version(mem), out)
+}
+
+// How many hashes have an effective record.
+#[no_mangle]
+pub extern "C" fn cadraspes_effective_count(mem: &[u64], out: &mut u64) -> u64
+    ensures { λ r. ⌜ Counts effectiveCountQ (now (mem .entry)) (now (out .entry)) (now (out .exit)) r ⌝ }
+{
+    telling::tell_count(holdings::effective_count(mem), out)
+}
+
+// The effective record of a hash: 1, the sixteen words of its header and the twelve of its copy; or 0, and the rest stays as it was.
+#[no_mangle]
+pub extern "C" fn cadraspes_effective(mem: &[u64], hash: &[u8; 32], out: &mut [u64; 29]) -> u64
+    ensures { λ r. ⌜ Shows (effectiveQ (bytesNumber (now (hash .entry)))) (now (mem .entry)) (now (out .entry)) (now (out .exit)) r ⌝ }
+{
+    let h = hash::from_bytes(hash);
+    telling::tell_shown(holdings::effective(mem, h), out)
+}
+
+// The hashes touched since a generation and a version, 32 bytes each, in the order of their last touch: 1 and how many; or 0 and 0 where
+// none are to be had.
+#[no_mangle]
+pub extern "C" fn cadraspes_changes(
+    mem: &[u64],
+    generation: u64,
+    version: u64,
+    list: &mut [u8],
+    out: &mut [u64; 2],
+) -> u64
+    ensures { λ r. ⌜ Lists generation version (now (mem .entry)) (now (list .entry)) (now (list .exit)) (now (out .entry)) (now (out .exit)) r ⌝ }
+{
+    telling::tell_listed(holdings::changes(mem, generation, version, list), out)
+}
+
+// ---- amounts ----
+
+// Reads an amount text: 1 and its value's two words, the lower first; three zeros where it is unreadable.
+#[no_mangle]
+pub extern "C" fn cadraspes_amount(text: &[u8], out: &mut [u64; 3]) -> u64
+    ensures { λ r. ⌜ (r ≡ 0) × AmountTold (reading (now (text .entry))) (now (out .exit)) ⌝ }
+{
+    let x = amount::read(text);
+    telling::tell_amount(x, out);
+    0
+}

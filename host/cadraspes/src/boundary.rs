@@ -1,0 +1,139 @@
+//! The boundary: the library's functions of C as safe functions on slices. A
+//! call gives back document 01's number. What makes them safe is proved of the
+//! library: on any memory whatever a call ends, stays inside of what it was
+//! lent, and a refusal changes nothing.
+#![allow(unsafe_code)]
+
+/// What a block's copy takes: the twelve words of docs/MEMORY.md.
+pub type CopyWords = [u64; 12];
+
+/// What a question for a block writes: 1 if there is one, else 0; then the
+/// sixteen words of its header and the twelve of its copy.
+pub type ShownWords = [u64; 29];
+
+/// True when the library was there to link.
+pub const fn linked() -> bool {
+    cfg!(linked)
+}
+
+/// What to say where it was not.
+pub const NOT_LINKED: &str =
+    "the library was not there to link (run tools/native-staticlib cadraspes, then build anew): \
+                              what needs it was not run";
+
+/// Declares the functions of C; where they are not linked, calling one panics.
+macro_rules! functions {
+    ($(fn $name:ident($($argument:ident: $type:ty),*);)*) => {
+        #[cfg(linked)]
+        extern "C" {
+            $(fn $name($($argument: $type),*) -> u64;)*
+        }
+        $(#[cfg(not(linked))]
+        unsafe fn $name($(_: $type),*) -> u64 {
+            panic!("{NOT_LINKED}")
+        })*
+    };
+}
+
+// A slice crosses as a pointer and a length, a reference as a pointer.
+functions! {
+    fn cadraspes_start(mem: *mut u64, len: usize, hashes: u64, journal: u64, generation: u64, version: u64);
+    fn cadraspes_reload(mem: *mut u64, len: usize, generation: u64, version: u64);
+    fn cadraspes_load(
+        mem: *mut u64, len: usize, store: u64, hash: &[u8; 32], index: u64, epoch: u64, prev: &[u8; 32],
+        target: *const u8, target_len: usize, actual: *const u8, actual_len: usize, copy: &CopyWords
+    );
+    fn cadraspes_put(
+        mem: *mut u64, len: usize, store: u64, hash: &[u8; 32], index: u64, epoch: u64, prev: &[u8; 32],
+        target: *const u8, target_len: usize, actual: *const u8, actual_len: usize, copy: &CopyWords
+    );
+    fn cadraspes_remove(mem: *mut u64, len: usize, store: u64, hash: &[u8; 32]);
+    fn cadraspes_answer(mem: *mut u64, len: usize, hash: &[u8; 32], answer: u64);
+    fn cadraspes_effective(mem: *const u64, len: usize, hash: &[u8; 32], out: &mut ShownWords);
+    fn cadraspes_effective_count(mem: *const u64, len: usize, out: &mut u64);
+    fn cadraspes_generation(mem: *const u64, len: usize, out: &mut u64);
+    fn cadraspes_version(mem: *const u64, len: usize, out: &mut u64);
+    fn cadraspes_changes(
+        mem: *const u64, len: usize, generation: u64, version: u64, list: *mut u8, list_len: usize, out: &mut [u64; 2]
+    );
+    fn cadraspes_amount(text: *const u8, len: usize, out: &mut [u64; 3]);
+}
+
+/// A record as it crosses: amounts as texts, the rest of a copy as words.
+#[derive(Clone, Copy, Debug)]
+pub struct Record<'a> {
+    pub hash: &'a [u8; 32],
+    pub index: u64,
+    pub epoch: u64,
+    pub prev: &'a [u8; 32],
+    pub target: &'a [u8],
+    pub actual: &'a [u8],
+    pub copy: &'a CopyWords,
+}
+
+pub fn start(mem: &mut [u64], hashes: u64, journal: u64, generation: u64, version: u64) -> u64 {
+    unsafe { cadraspes_start(mem.as_mut_ptr(), mem.len(), hashes, journal, generation, version) }
+}
+
+pub fn reload(mem: &mut [u64], generation: u64, version: u64) -> u64 {
+    unsafe { cadraspes_reload(mem.as_mut_ptr(), mem.len(), generation, version) }
+}
+
+pub fn load(mem: &mut [u64], store: u64, r: &Record) -> u64 {
+    let ((target, target_len), (actual, actual_len)) = (parts(r.target), parts(r.actual));
+    let (mem, len) = (mem.as_mut_ptr(), mem.len());
+    unsafe {
+        cadraspes_load(
+            mem, len, store, r.hash, r.index, r.epoch, r.prev, target, target_len, actual, actual_len, r.copy,
+        )
+    }
+}
+
+pub fn put(mem: &mut [u64], store: u64, r: &Record) -> u64 {
+    let ((target, target_len), (actual, actual_len)) = (parts(r.target), parts(r.actual));
+    let (mem, len) = (mem.as_mut_ptr(), mem.len());
+    unsafe {
+        cadraspes_put(mem, len, store, r.hash, r.index, r.epoch, r.prev, target, target_len, actual, actual_len, r.copy)
+    }
+}
+
+fn parts(bytes: &[u8]) -> (*const u8, usize) {
+    (bytes.as_ptr(), bytes.len())
+}
+
+pub fn remove(mem: &mut [u64], store: u64, hash: &[u8; 32]) -> u64 {
+    unsafe { cadraspes_remove(mem.as_mut_ptr(), mem.len(), store, hash) }
+}
+
+pub fn answer(mem: &mut [u64], hash: &[u8; 32], answer: u64) -> u64 {
+    unsafe { cadraspes_answer(mem.as_mut_ptr(), mem.len(), hash, answer) }
+}
+
+pub fn effective(mem: &[u64], hash: &[u8; 32], out: &mut ShownWords) -> u64 {
+    unsafe { cadraspes_effective(mem.as_ptr(), mem.len(), hash, out) }
+}
+
+pub fn effective_count(mem: &[u64], out: &mut u64) -> u64 {
+    unsafe { cadraspes_effective_count(mem.as_ptr(), mem.len(), out) }
+}
+
+pub fn generation(mem: &[u64], out: &mut u64) -> u64 {
+    unsafe { cadraspes_generation(mem.as_ptr(), mem.len(), out) }
+}
+
+pub fn version(mem: &[u64], out: &mut u64) -> u64 {
+    unsafe { cadraspes_version(mem.as_ptr(), mem.len(), out) }
+}
+
+/// The list has 32 bytes a place. Writes 1 and the count, or 0 and 0 where
+/// none are to be had.
+pub fn changes(mem: &[u64], generation: u64, version: u64, list: &mut [u8], out: &mut [u64; 2]) -> u64 {
+    let (places, bytes) = (list.as_mut_ptr(), list.len());
+    unsafe { cadraspes_changes(mem.as_ptr(), mem.len(), generation, version, places, bytes, out) }
+}
+
+/// Writes 1 and the two words of the value, the lower first, or three zeros
+/// where the text is unreadable.
+pub fn amount(text: &[u8], out: &mut [u64; 3]) -> u64 {
+    unsafe { cadraspes_amount(text.as_ptr(), text.len(), out) }
+}

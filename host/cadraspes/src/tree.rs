@@ -1,0 +1,146 @@
+//! A tree that owns its memory.
+use crate::boundary::{self, Record};
+use crate::words::{copy_words, reading_of, shown_of};
+use crate::{Amount, Block, Hash, Refusal};
+
+/// How many words of memory some rooms need (docs/MEMORY.md).
+pub fn room(hashes: u64, journal: u64) -> u64 {
+    64 + 81 * hashes + 8 * journal
+}
+
+/// A tree of blocks with its journal.
+pub struct Tree {
+    memory: Vec<u64>,
+}
+
+/// Document 01's number as a result.
+fn done(number: u64) -> Result<(), Refusal> {
+    match number {
+        0 => Ok(()),
+        _ => Err(Refusal::of(number).expect("the library gives back 0 to 13")),
+    }
+}
+
+impl Tree {
+    /// An empty tree with room for so many hashes and journal entries.
+    pub fn new(hashes: u64, journal: u64, generation: u64, version: u64) -> Result<Tree, Refusal> {
+        let words = if hashes <= 32_768 && journal <= 200_000 { room(hashes, journal) } else { 0 };
+        Tree::in_memory(vec![0; words as usize], hashes, journal, generation, version)
+    }
+
+    /// The same in memory that is given, whatever its words.
+    pub fn in_memory(
+        mut memory: Vec<u64>,
+        hashes: u64,
+        journal: u64,
+        generation: u64,
+        version: u64,
+    ) -> Result<Tree, Refusal> {
+        done(boundary::start(&mut memory, hashes, journal, generation, version))?;
+        Ok(Tree { memory })
+    }
+
+    /// Empties the tree, under a later generation.
+    pub fn reload(&mut self, generation: u64, version: u64) -> Result<(), Refusal> {
+        done(boundary::reload(&mut self.memory, generation, version))
+    }
+
+    /// Brings a record into a store, without a touch.
+    pub fn load(&mut self, store: u8, block: &Block<String>) -> Result<(), Refusal> {
+        done(with_record(block, |record| boundary::load(&mut self.memory, store.into(), record)))
+    }
+
+    /// Puts a record into a store.
+    pub fn put(&mut self, store: u8, block: &Block<String>) -> Result<(), Refusal> {
+        done(with_record(block, |record| boundary::put(&mut self.memory, store.into(), record)))
+    }
+
+    /// Removes a copy from a store, if it is there.
+    pub fn remove(&mut self, store: u8, hash: Hash) -> Result<(), Refusal> {
+        done(boundary::remove(&mut self.memory, store.into(), &hash.0))
+    }
+
+    /// Gives the eligibility answer for a hash: 0, 1 or 2.
+    pub fn answer(&mut self, hash: Hash, answer: u64) -> Result<(), Refusal> {
+        done(boundary::answer(&mut self.memory, &hash.0, answer))
+    }
+
+    /// The effective record of a hash.
+    pub fn effective(&self, hash: Hash) -> Option<Block<Amount>> {
+        let mut out = [0; 29];
+        never(boundary::effective(&self.memory, &hash.0, &mut out));
+        shown_of(&out)
+    }
+
+    /// How many hashes have an effective record.
+    pub fn count(&self) -> u64 {
+        self.number(boundary::effective_count)
+    }
+
+    pub fn generation(&self) -> u64 {
+        self.number(boundary::generation)
+    }
+
+    pub fn version(&self) -> u64 {
+        self.number(boundary::version)
+    }
+
+    fn number(&self, ask: fn(&[u64], &mut u64) -> u64) -> u64 {
+        let mut out = 0;
+        never(ask(&self.memory, &mut out));
+        out
+    }
+
+    /// The hashes touched since a generation and version go into the first
+    /// places of a list; gives how many, or none if they are not to be had.
+    pub fn changes_into(&self, generation: u64, version: u64, list: &mut [Hash]) -> Result<Option<usize>, Refusal> {
+        let mut bytes: Vec<u8> = list.iter().flat_map(|hash| hash.0).collect();
+        let mut out = [0; 2];
+        done(boundary::changes(&self.memory, generation, version, &mut bytes, &mut out))?;
+        for (place, hash) in list.iter_mut().zip(bytes.chunks_exact(32)) {
+            place.0.copy_from_slice(hash);
+        }
+        Ok((out[0] == 1).then_some(out[1] as usize))
+    }
+
+    /// The hashes touched since a generation and version, in the order of
+    /// their last touch; none if they are not to be had.
+    pub fn changes(&self, generation: u64, version: u64) -> Option<Vec<Hash>> {
+        // No more hashes than touches since, and no more than the journal has room for.
+        let touches = self.version().saturating_sub(version).min(200_000);
+        let mut list = vec![Hash([0; 32]); touches as usize];
+        let count = self.changes_into(generation, version, &mut list).expect("the list is long enough")?;
+        list.truncate(count);
+        Some(list)
+    }
+
+    /// The value of an amount text; none where it is unreadable.
+    pub fn amount(text: &str) -> Amount {
+        let mut out = [0; 3];
+        never(boundary::amount(text.as_bytes(), &mut out));
+        reading_of(out[0], &out[1..])
+    }
+
+    /// The words of its memory.
+    pub fn memory(&self) -> &[u64] {
+        &self.memory
+    }
+}
+
+/// Of calls that are never refused on a memory that calls left.
+fn never(number: u64) {
+    assert_eq!(number, 0, "a call that is never refused");
+}
+
+fn with_record<T>(block: &Block<String>, call: impl FnOnce(&Record) -> T) -> T {
+    let copy = copy_words(&block.marks);
+    call(&Record {
+        hash: &block.hash.0,
+        index: block.index,
+        epoch: block.epoch,
+        prev: &block.prev.0,
+        target: block.target.as_bytes(),
+        actual: block.actual.as_bytes(),
+        copy: &copy,
+    })
+}

@@ -1,0 +1,268 @@
+//! The library with guards on both sides of everything that it is lent. After
+//! each call the guards are looked at, and after a refusal that nothing that
+//! was lent has changed.
+use cadraspes::boundary::{self, Record};
+use cadraspes::words::{copy_words, reading_of, shown_of};
+use cadraspes::{room, Hash};
+use history::{Answer, Block, Call};
+
+const GUARD: u64 = 0x6a09_e667_f3bc_c908;
+const GUARD_WORDS: usize = 64;
+
+/// Words between guards. Bytes are lent as words' bytes would be, so a list is
+/// kept beside in its own guards.
+#[derive(Clone)]
+pub struct Words(Vec<u64>);
+
+impl Words {
+    pub fn new(words: &[u64]) -> Words {
+        let guard = [GUARD; GUARD_WORDS];
+        Words([&guard, words, &guard].concat())
+    }
+
+    pub fn inner(&mut self) -> &mut [u64] {
+        let end = self.0.len() - GUARD_WORDS;
+        &mut self.0[GUARD_WORDS..end]
+    }
+
+    pub fn shown(&self) -> &[u64] {
+        &self.0[GUARD_WORDS..self.0.len() - GUARD_WORDS]
+    }
+
+    pub fn check(&self) {
+        let guards = self.0[..GUARD_WORDS].iter().chain(&self.0[self.0.len() - GUARD_WORDS..]);
+        assert!(guards.copied().eq([GUARD; 2 * GUARD_WORDS]), "a guard word was written");
+    }
+}
+
+/// Bytes between guards.
+#[derive(Clone)]
+pub struct Bytes(Vec<u8>);
+
+impl Bytes {
+    pub fn new(bytes: &[u8]) -> Bytes {
+        let guard = [0x5c; 512];
+        Bytes([&guard, bytes, &guard].concat())
+    }
+
+    pub fn inner(&mut self) -> &mut [u8] {
+        let end = self.0.len() - 512;
+        &mut self.0[512..end]
+    }
+
+    pub fn shown(&self) -> &[u8] {
+        &self.0[512..self.0.len() - 512]
+    }
+
+    pub fn check(&self) {
+        let guards = self.0[..512].iter().chain(&self.0[self.0.len() - 512..]);
+        assert!(guards.copied().eq([0x5c; 1024]), "a guard byte was written");
+    }
+}
+
+/// What the words hold that a question is lent.
+const OUT: u64 = 0x1f83_d9ab_fb41_bd6b;
+
+/// A place of a list before it is lent.
+pub const PLACE: Hash = Hash([0xc3; 32]);
+
+/// What a question gave: its number, and the words it wrote.
+pub struct Asked {
+    pub number: u64,
+    pub words: Vec<u64>,
+}
+
+/// A memory between guards.
+#[derive(Clone)]
+pub struct Memory(pub Words);
+
+impl Memory {
+    /// A call that may change the memory.
+    pub fn call(&mut self, call: impl FnOnce(&mut [u64]) -> u64) -> u64 {
+        let before = self.0.clone();
+        let number = call(self.0.inner());
+        self.0.check();
+        assert!(number <= 13, "{number} is no number of document 01");
+        assert!(number == 0 || self.0 .0 == before.0, "a call refused with {number} changed the memory");
+        number
+    }
+
+    /// A question, lent `count` words.
+    fn ask<const N: usize>(&self, ask: impl FnOnce(&[u64], &mut [u64; N]) -> u64) -> Asked {
+        let mut out = Words::new(&[OUT; N]);
+        let number = ask(self.0.shown(), out.inner().try_into().expect("N words"));
+        self.0.check();
+        out.check();
+        assert!(number <= 13, "{number} is no number of document 01");
+        assert!(number == 0 || out.shown() == [OUT; N], "a question refused with {number} wrote an answer");
+        Asked { number, words: out.shown().to_vec() }
+    }
+
+    pub fn load(&mut self, store: u64, block: &Block<String>) -> u64 {
+        self.call(|mem| with_record(block, |record| boundary::load(mem, store, record)))
+    }
+
+    pub fn put(&mut self, store: u64, block: &Block<String>) -> u64 {
+        self.call(|mem| with_record(block, |record| boundary::put(mem, store, record)))
+    }
+
+    pub fn remove(&mut self, store: u64, hash: Hash) -> u64 {
+        self.call(|mem| boundary::remove(mem, store, &hash.0))
+    }
+
+    pub fn effective(&self, hash: Hash) -> Asked {
+        let asked = self.ask::<29>(|mem, out| boundary::effective(mem, &hash.0, out));
+        let none = asked.number == 0 && asked.words[0] == 0;
+        assert!(!none || asked.words[1..] == [OUT; 28], "none was shown, and words were written");
+        asked
+    }
+
+    pub fn number(&self, ask: fn(&[u64], &mut u64) -> u64) -> Asked {
+        self.ask::<1>(|mem, out| ask(mem, &mut out[0]))
+    }
+
+    /// With a list of that many bytes, each of it that of an untouched place.
+    pub fn changes(&self, generation: u64, version: u64, bytes: usize) -> (Asked, Vec<u8>) {
+        let mut list = Bytes::new(&vec![PLACE.0[0]; bytes]);
+        let asked = self.ask::<2>(|mem, out| boundary::changes(mem, generation, version, list.inner(), out));
+        list.check();
+        let untouched = list.shown().iter().all(|byte| *byte == PLACE.0[0]);
+        assert!(asked.number == 0 || untouched, "a question refused with {} wrote a list", asked.number);
+        (asked, list.shown().to_vec())
+    }
+}
+
+/// With the texts, the copy's words and the hashes in guards of their own,
+/// which a call must leave alone too.
+fn with_record(block: &Block<String>, call: impl FnOnce(&Record) -> u64) -> u64 {
+    let copy = Words::new(&copy_words(&block.marks));
+    let (target, actual) = (Bytes::new(block.target.as_bytes()), Bytes::new(block.actual.as_bytes()));
+    let before = (copy.clone(), target.clone(), actual.clone());
+    let number = call(&Record {
+        hash: &block.hash.0,
+        index: block.index,
+        epoch: block.epoch,
+        prev: &block.prev.0,
+        target: target.shown(),
+        actual: actual.shown(),
+        copy: copy.shown().try_into().expect("twelve words"),
+    });
+    assert!((copy.0, target.0, actual.0) == (before.0 .0, before.1 .0, before.2 .0), "what is only read was written");
+    number
+}
+
+/// Histories on a guarded memory.
+#[derive(Default)]
+pub struct Library {
+    pub memory: Option<Memory>,
+    lend: Option<u64>,
+}
+
+impl Library {
+    pub fn call(&mut self, call: &Call) -> Answer {
+        if let Call::Start { hashes, journal, generation, version } = call {
+            return self.start(*hashes, *journal, *generation, *version);
+        }
+        let lend = self.lend;
+        let memory = self.memory.as_mut().expect("a start was accepted");
+        match call {
+            Call::Reload { generation, version } => {
+                done(memory.call(|mem| boundary::reload(mem, *generation, *version)))
+            }
+            Call::Load(store, block) => done(memory.load((*store).into(), block)),
+            Call::Put(store, block) => done(memory.put((*store).into(), block)),
+            Call::Remove(store, hash) => done(memory.remove((*store).into(), *hash)),
+            Call::Answer(hash, value) => done(memory.call(|mem| boundary::answer(mem, &hash.0, *value))),
+            Call::Effective(hash) => answer(memory.effective(*hash), |words| {
+                shown_of(words.try_into().expect("29 words")).map_or(Answer::None, Answer::Block)
+            }),
+            Call::Count => answer(memory.number(boundary::effective_count), |words| Answer::Number(words[0])),
+            Call::Generation => answer(memory.number(boundary::generation), |words| Answer::Number(words[0])),
+            Call::Version => answer(memory.number(boundary::version), |words| Answer::Number(words[0])),
+            Call::Changes { generation, version } => changes(memory, *generation, *version, lend),
+            Call::Amount(text) => amount(text),
+            Call::Lend(length) => {
+                self.lend = *length;
+                Answer::Done
+            }
+            _ => panic!("the library does not have {call}"),
+        }
+    }
+
+    /// In a memory of exactly the words needed, which hold anything.
+    fn start(&mut self, hashes: u64, journal: u64, generation: u64, version: u64) -> Answer {
+        let words = if hashes <= 32_768 && journal <= 200_000 { room(hashes, journal) as usize } else { 4096 };
+        let mut memory = Memory(Words::new(&vec![0x510e_527f_ade6_82d1; words]));
+        let number = memory.call(|mem| boundary::start(mem, hashes, journal, generation, version));
+        if number == 0 {
+            *self = Library { memory: Some(memory), lend: None };
+        }
+        done(number)
+    }
+}
+
+fn done(number: u64) -> Answer {
+    match number {
+        0 => Answer::Done,
+        _ => Answer::Refused(number as u8),
+    }
+}
+
+fn answer(asked: Asked, read: impl FnOnce(&[u64]) -> Answer) -> Answer {
+    match asked.number {
+        0 => read(&asked.words),
+        number => Answer::Refused(number as u8),
+    }
+}
+
+/// With a list of the length lent, or two places more than could be needed.
+fn changes(memory: &Memory, generation: u64, version: u64, lend: Option<u64>) -> Answer {
+    let places = lend.unwrap_or(memory.number(boundary::version).words[0].saturating_sub(version).min(200_000) + 2);
+    let (asked, list) = memory.changes(generation, version, 32 * places as usize);
+    let (there, count) = (asked.words[0] == 1, asked.words[1] as usize);
+    answer(asked, |_| {
+        let filled = if there { count } else { 0 };
+        let (hashes, rest) = list.split_at(32 * filled);
+        assert!(rest.iter().all(|byte| *byte == PLACE.0[0]), "places past the answer's end were written");
+        let hashes = hashes.chunks_exact(32).map(|hash| Hash(hash.try_into().expect("32 bytes"))).collect();
+        if there {
+            Answer::Hashes(hashes)
+        } else {
+            Answer::None
+        }
+    })
+}
+
+fn amount(text: &str) -> Answer {
+    let (lent, mut out) = (Bytes::new(text.as_bytes()), Words::new(&[OUT; 3]));
+    let number = boundary::amount(lent.shown(), out.inner().try_into().expect("three words"));
+    out.check();
+    answer(Asked { number, words: out.shown().to_vec() }, |words| Answer::Amount(reading_of(words[0], &words[1..])))
+}
+
+#[test]
+fn a_guard_that_was_written_is_noticed() {
+    let noticed = |check: &dyn Fn()| std::panic::catch_unwind(std::panic::AssertUnwindSafe(check)).is_err();
+    for at in [0, GUARD_WORDS - 1, GUARD_WORDS + 3, 2 * GUARD_WORDS + 2] {
+        let mut words = Words::new(&[7, 8, 9]);
+        assert!(!noticed(&|| words.check()));
+        words.0[at] ^= 1;
+        assert!(noticed(&|| words.check()), "word {at}");
+    }
+    for at in [0, 511, 515, 1026] {
+        let mut bytes = Bytes::new(&[7, 8, 9]);
+        assert!(!noticed(&|| bytes.check()));
+        bytes.0[at] ^= 1;
+        assert!(noticed(&|| bytes.check()), "byte {at}");
+    }
+}
+
+#[test]
+fn a_refusal_that_changes_something_is_noticed() {
+    let noticed = |number: u64| {
+        let call = || Memory(Words::new(&[7])).call(|mem| (mem[0] = 8, number).1);
+        std::panic::catch_unwind(call).is_err()
+    };
+    assert!(!noticed(0) && noticed(1) && noticed(13));
+    assert!(std::panic::catch_unwind(|| Memory(Words::new(&[7])).call(|_| 14)).is_err(), "14 is no number");
+}

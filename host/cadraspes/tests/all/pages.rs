@@ -1,0 +1,131 @@
+//! Reads outside of what is lent: here everything that is lent ends where a
+//! page ends, and neither the page behind it nor the page before can be read
+//! or written. A call that looks past an end ends the test program.
+#![allow(unsafe_code)]
+use crate::bad_memory::{name, sound};
+use crate::common::{with_library, Rng};
+use cadraspes::boundary::{self, Record};
+use std::ffi::c_void;
+
+extern "C" {
+    fn mmap(at: *mut c_void, length: usize, may: i32, flags: i32, file: i32, offset: i64) -> *mut c_void;
+    fn mprotect(at: *mut c_void, length: usize, may: i32) -> i32;
+    fn munmap(at: *mut c_void, length: usize) -> i32;
+}
+
+/// Of Linux: read and write; private and of no file. A page is at most 64 KiB.
+const READ_WRITE: i32 = 3;
+const PRIVATE_ANONYMOUS: i32 = 0x22;
+const PAGE: usize = 1 << 16;
+
+/// Bytes in pages of their own.
+struct Lent {
+    base: *mut u8,
+    pages: usize,
+    length: usize,
+}
+
+impl Lent {
+    fn new(bytes: &[u8]) -> Lent {
+        let pages = bytes.len().div_ceil(PAGE).max(1) + 2;
+        let base = unsafe {
+            let base = mmap(std::ptr::null_mut(), pages * PAGE, 0, PRIVATE_ANONYMOUS, -1, 0).cast::<u8>();
+            assert!(base as isize != -1, "no pages");
+            assert_eq!(mprotect(base.add(PAGE).cast(), (pages - 2) * PAGE, READ_WRITE), 0);
+            base
+        };
+        let mut lent = Lent { base, pages, length: bytes.len() };
+        lent.bytes().copy_from_slice(bytes);
+        lent
+    }
+
+    fn words(words: &[u64]) -> Lent {
+        Lent::new(&words.iter().flat_map(|word| word.to_ne_bytes()).collect::<Vec<u8>>())
+    }
+
+    /// The last bytes before the page that cannot be read.
+    fn bytes(&mut self) -> &mut [u8] {
+        unsafe { std::slice::from_raw_parts_mut(self.base.add((self.pages - 1) * PAGE - self.length), self.length) }
+    }
+
+    fn as_words(&mut self) -> &mut [u64] {
+        let bytes = self.bytes();
+        assert!(bytes.len().is_multiple_of(8) && (bytes.as_ptr() as usize).is_multiple_of(8));
+        unsafe { std::slice::from_raw_parts_mut(bytes.as_mut_ptr().cast(), bytes.len() / 8) }
+    }
+}
+
+impl Drop for Lent {
+    fn drop(&mut self) {
+        assert_eq!(unsafe { munmap(self.base.cast(), self.pages * PAGE) }, 0);
+    }
+}
+
+/// Every call on a memory, one after the other; gives how many were accepted.
+fn every_call(memory: &[u64], rng: &mut Rng) -> usize {
+    let mut memory = Lent::words(memory);
+    let mut hash = Lent::new(&name(rng.below(9)).0);
+    let (mut prev, mut copy) = (Lent::new(&name(1).0), Lent::words(&[8, 2, 5, 1, 1, 1, 1, 1, 1, 1, 1, 1]));
+    let (mut target, mut actual) = (Lent::new(b"1"), Lent::new(b"00000000000000000000000000000000000000001"));
+    let (mut shown, mut number, mut two) = (Lent::words(&[0; 29]), Lent::words(&[0]), Lent::words(&[0; 2]));
+    let (mut three, mut list) = (Lent::words(&[0; 3]), Lent::new(&vec![0; rng.below(300) as usize]));
+    let mem = memory.as_words();
+    let hash: &[u8; 32] = (&*hash.bytes()).try_into().expect("32 bytes");
+    let (prev, copy) = ((&*prev.bytes()).try_into().expect("32"), (&*copy.as_words()).try_into().expect("12"));
+    let record = Record { hash, index: 0, epoch: 0, prev, target: target.bytes(), actual: actual.bytes(), copy };
+    let number = &mut number.as_words()[0];
+    let shown = shown.as_words().try_into().expect("29 words");
+    let asked = [boundary::version(mem, number), boundary::generation(mem, number)];
+    let version = number.wrapping_sub(rng.below(6));
+    let numbers = [
+        boundary::effective_count(mem, number),
+        boundary::load(mem, rng.below(4), &record),
+        boundary::put(mem, rng.below(4), &record),
+        boundary::effective(mem, hash, shown),
+        boundary::changes(mem, 1, version, list.bytes(), two.as_words().try_into().expect("2 words")),
+        boundary::answer(mem, hash, rng.below(3)),
+        boundary::remove(mem, rng.below(3), hash),
+        boundary::amount(record.actual, three.as_words().try_into().expect("3 words")),
+        boundary::reload(mem, 1 + rng.below(3), 0),
+        boundary::start(mem, 1 + rng.below(8), 1 + rng.below(8), 1, 0),
+    ];
+    asked.into_iter().chain(numbers).filter(|number| *number == 0).count()
+}
+
+#[test]
+fn nothing_outside_is_read() {
+    if !with_library() {
+        return;
+    }
+    let (sound, mut rng) = (sound(), Rng(7));
+    let mut accepted = 0;
+    for turn in 0..1500 {
+        let mut words = sound.0.shown().to_vec();
+        for _ in 0..turn % 4 {
+            let at = rng.below(words.len() as u64) as usize;
+            words[at] = rng.next() >> rng.pick(&[0, 1, 32, 61, 62]);
+        }
+        accepted += every_call(&words, &mut rng);
+    }
+    assert!(accepted > 7_500, "{accepted} calls were accepted");
+    for words in 0..200 {
+        every_call(&vec![rng.pick(&[0, 1, u64::MAX]); words], &mut rng);
+    }
+}
+
+/// Run by the test below in a program of its own, which it ends.
+#[test]
+#[ignore = "it ends the test program, as it must"]
+fn a_word_past_the_end() {
+    let mut lent = Lent::words(&[1, 2, 3]);
+    let words = lent.as_words();
+    println!("{}", unsafe { words.as_ptr().add(words.len()).read_volatile() });
+}
+
+#[test]
+fn a_read_past_the_end_is_noticed() {
+    let program = std::env::current_exe().expect("this program has a path");
+    let arguments = ["--ignored", "--exact", "pages::a_word_past_the_end"];
+    let status = std::process::Command::new(program).args(arguments).output().expect("it can be run").status;
+    assert_eq!(status.code(), None, "ended by a signal");
+}
