@@ -1,0 +1,193 @@
+// REASON (docs/HISTORY.md, "Words"): a kind of sentence, and behind colons the numbers that it prints; read, and written.
+use crate::words;
+use crate::words::Hashed;
+use crate::words::Numbered;
+use crate::write;
+use amount::Amount;
+use block::Reason;
+use block::Why;
+
+pub enum Reasoned {
+    Why(Why),
+    No,
+}
+
+enum Summed {
+    Amount(Amount),
+    No,
+}
+
+// ---- reading ----
+
+fn part(word: &[u8], i: usize) -> &[u8] {
+    words::nth(word, b':', i)
+}
+
+fn because(reason: Reason) -> Reasoned {
+    Reasoned::Why(Why::Because(reason))
+}
+
+// An AMOUNT as it would be answered: no leading zero but the one of zero itself.
+fn amount(word: &[u8]) -> Summed {
+    let n = word.len();
+    if n < 3 {
+        return Summed::No;
+    }
+    if 34 < n {
+        return Summed::No;
+    }
+    if word[0] != b'0' {
+        return Summed::No;
+    }
+    if word[1] != b'x' {
+        return Summed::No;
+    }
+    if word[2] == b'0' {
+        if n != 3 {
+            return Summed::No;
+        }
+    }
+    let Numbered::Number(low) = words::sixteen(&word[2..], 0) else {
+        return Summed::No;
+    };
+    let Numbered::Number(high) = words::sixteen(&word[2..], 16) else {
+        return Summed::No;
+    };
+    Summed::Amount(amount::from_words(low, high))
+}
+
+fn plain(kind: &[u8]) -> Reasoned {
+    if words::is(kind, b"neither") {
+        return because(Reason::Neither);
+    }
+    if words::is(kind, b"peer-hash") {
+        return because(Reason::PeerHash);
+    }
+    if words::is(kind, b"local-hash") {
+        return because(Reason::LocalHash);
+    }
+    if words::is(kind, b"off-spine") {
+        return because(Reason::OffSpine);
+    }
+    if words::is(kind, b"competing") {
+        return because(Reason::CompetingFork);
+    }
+    if words::is(kind, b"stale") {
+        return because(Reason::StaleFork);
+    }
+    Reasoned::No
+}
+
+fn one(kind: &[u8], word: &[u8]) -> Reasoned {
+    if words::is(kind, b"same-tip") {
+        let Hashed::Hash(h) = words::hash(word) else {
+            return Reasoned::No;
+        };
+        return because(Reason::SameTip(h));
+    }
+    let Summed::Amount(a) = amount(word) else {
+        return Reasoned::No;
+    };
+    if words::is(kind, b"peer-only") {
+        return because(Reason::PeerOnly(a));
+    }
+    if words::is(kind, b"local-only") {
+        return because(Reason::LocalOnly(a));
+    }
+    Reasoned::No
+}
+
+fn two_works(kind: &[u8], first: &[u8], second: &[u8]) -> Reasoned {
+    let Summed::Amount(a) = amount(first) else {
+        return Reasoned::No;
+    };
+    let Summed::Amount(b) = amount(second) else {
+        return Reasoned::No;
+    };
+    if words::is(kind, b"peer-work") {
+        return because(Reason::PeerWork(a, b));
+    }
+    if words::is(kind, b"local-work") {
+        return because(Reason::LocalWork(a, b));
+    }
+    Reasoned::No
+}
+
+fn two_tips(kind: &[u8], first: &[u8], second: &[u8]) -> Reasoned {
+    let Numbered::Number(i) = words::number(first) else {
+        return Reasoned::No;
+    };
+    let Numbered::Number(j) = words::number(second) else {
+        return Reasoned::No;
+    };
+    if words::is(kind, b"peer-tip") {
+        return because(Reason::PeerTip(i, j));
+    }
+    if words::is(kind, b"local-tip") {
+        return because(Reason::LocalTip(i, j));
+    }
+    Reasoned::No
+}
+
+// (A word is an AMOUNT, which begins with 0x, or a NUMBER, and never both.)
+fn two(kind: &[u8], first: &[u8], second: &[u8]) -> Reasoned {
+    match two_works(kind, first, second) {
+        Reasoned::Why(w) => Reasoned::Why(w),
+        Reasoned::No => two_tips(kind, first, second),
+    }
+}
+
+pub fn read(word: &[u8]) -> Reasoned {
+    if words::is(word, b"-") {
+        return Reasoned::Why(Why::None);
+    }
+    let kind = part(word, 0);
+    match words::count(word, b':') {
+        1 => plain(kind),
+        2 => one(kind, part(word, 1)),
+        3 => two(kind, part(word, 1), part(word, 2)),
+        _ => Reasoned::No,
+    }
+}
+
+// ---- writing ----
+
+fn works(kind: &[u8], a: Amount, b: Amount) {
+    write::out(kind);
+    write::amount(a);
+    write::out(b":");
+    write::amount(b);
+}
+
+fn tips(kind: &[u8], i: u64, j: u64) {
+    write::out(kind);
+    write::number(i);
+    write::out(b":");
+    write::number(j);
+}
+
+fn work(kind: &[u8], a: Amount) {
+    write::out(kind);
+    write::amount(a);
+}
+
+pub fn write(reason: Reason) {
+    match reason {
+        Reason::SameTip(h) => {
+            write::out(b"same-tip:");
+            write::hash(h);
+        }
+        Reason::Neither => write::out(b"neither"),
+        Reason::PeerOnly(a) => work(b"peer-only:", a),
+        Reason::LocalOnly(a) => work(b"local-only:", a),
+        Reason::PeerWork(a, b) => works(b"peer-work:", a, b),
+        Reason::LocalWork(a, b) => works(b"local-work:", a, b),
+        Reason::PeerTip(i, j) => tips(b"peer-tip:", i, j),
+        Reason::LocalTip(i, j) => tips(b"local-tip:", i, j),
+        Reason::PeerHash => write::out(b"peer-hash"),
+        Reason::LocalHash => write::out(b"local-hash"),
+        Reason::OffSpine => write::out(b"off-spine"),
+        Reason::CompetingFork => write::out(b"competing"),
+        Reason::StaleFork => write::out(b"stale"),
+    }
+}
