@@ -1,16 +1,19 @@
--- The questions about the holdings that a word of the head answers.
-use mathlib.Core.Path.{_≡_, refl, sym, ap, _∙_}
+-- The questions about the holdings: those that a word of the head answers, and the effective record.
+use mathlib.Core.Path.{_≡_, refl, sym, ap, _∙_, subst}
 use mathlib.Core.List.{List}
+use mathlib.Core.Option.{Option, none}
 use Prim.Native.Nat.{ℕ, _≤_, _<_}
 use native.Mathlib.Omega.{arith}
 use lib.Dec.{ltb}
 use Rattle.amount.specs.Choose.{_if_else_}
-use Rattle.model.specs.Questions.{HoldingsQuestion, effectiveCountQ, generationQ, versionQ, Reply, counted, holdingsReply, holdingsLent, tooShort}
+use Rattle.model.specs.Questions.{HoldingsQuestion, effectiveQ, effectiveCountQ, generationQ, versionQ, Reply, counted, shown, blockAt, effectiveAt, holdingsReply, holdingsLent, tooShort}
 use Rattle.model.specs.Numbers.{askHoldings}
 use Rattle.memory.specs.Words.{word}
 use Rattle.memory.specs.Layout.{Laid}
-use Rattle.state.specs.View.{view, viewAt}
-use Rattle.state.specs.Sound.{Sound}
+use Rattle.model.specs.Holding.{placeOf}
+use Rattle.state.specs.View.{cellsOf, view, viewAt}
+use Rattle.state.specs.Sound.{Sound, SoundAt, placed}
+use Rattle.state.proofs.FindLaws.{placed-in, placed-out}
 use Rattle.holdings.specs.Asked.{Asked}
 
 -- a memory that is not laid out is not sound
@@ -33,3 +36,23 @@ asks-version m = counts versionQ m (word m 3) (λ s. refl)
 
 pub asks-effective-count : (m : List ℕ) → Asked effectiveCountQ m 0 (counted (word m 11))
 asks-effective-count m = counts effectiveCountQ m (word m 11) (λ s. ap counted (s .effective))
+
+-- ---- the effective record ----
+
+module _ (m : List ℕ) (n p x : ℕ) (e : Laid m (word m 0) → n ≡ word m 0) (at : SoundAt m n → placeOf (viewAt m n .holdings) x ≡ placed n p) where
+  there : (o : Option ℕ) → placed n p ≡ o → Sound m → placeOf (view m .holdings) x ≡ o
+  there o f s = subst (λ (i : ℕ). placeOf (viewAt m i .holdings) x ≡ o) (e (s .laid)) (at (subst (SoundAt m) (sym (e (s .laid))) s) ∙ f)
+
+  pub asks-absent : n ≤ p → Asked (effectiveQ x) m 0 (shown none)
+  asks-absent l = record { number-is = λ s. refl; reply-is = λ s. ap (λ (o : Option ℕ). shown (effectiveAt (view m .holdings) o)) (sym (there none (placed-out n p l) s)) }
+
+  module _ (r : ℕ) (y : Reply) (number : r ≡ 0) (reply : y ≡ shown (blockAt (cellsOf m n p))) where
+    cell : Sound m → shown (blockAt (cellsOf m n p)) ≡ shown (blockAt (view m .holdings .cells p))
+    unfolding viewAt
+    cell s = ap (λ (i : ℕ). shown (blockAt (cellsOf m i p))) (e (s .laid))
+
+    pub asks-effective : p < n → Asked (effectiveQ x) m r y
+    asks-effective l = record {
+      number-is = λ s. number;
+      reply-is = λ s. reply ∙ cell s ∙ ap (λ (o : Option ℕ). shown (effectiveAt (view m .holdings) o)) (sym (there _ (placed-in n p l) s));
+    }

@@ -3,3 +3,4 @@ pub mod CallLaws
 pub mod StaleSteps
 pub mod PutLaws
 pub mod AskLaws
+pub mod ChangesSteps

@@ -1,17 +1,19 @@
 // The calls on the holdings (document 01, "Holding blocks", "Numbers given back"): each reads the room from the head, and works inside of it.
 ghost use mathlib.Core.Path.{_≡_};
-ghost use Prim.Native.Nat.{_≤_, _<_};
-ghost use Rattle.block.specs.Answers.{countedNumber, countedReply, doneNumber};
+ghost use Prim.Native.Nat.{ℕ, _≤_, _<_};
+ghost use Rattle.block.specs.Answers.{countedNumber, countedReply, doneNumber, shownNumber, shownReply};
 ghost use Rattle.block.specs.Records.{blockMeans, hashMeans, headerMeans};
-ghost use Rattle.holdings.specs.Asked.{Asked};
+ghost use Rattle.holdings.specs.Asked.{Asked, Changes, ChangesAt};
 ghost use Rattle.holdings.specs.Calls.{Within};
 ghost use Rattle.holdings.specs.Seats.{Below, Known, Roomy, Seats};
+ghost use Rattle.journal.specs.Changes.{changesOf, hadOf};
+ghost use Rattle.journal.specs.declared.Had.the-variants.{Count};
 ghost use Rattle.memory.specs.Layout.{Laid};
 ghost use Rattle.memory.specs.Words.{word};
 ghost use Rattle.model.specs.Holding.{answerOf};
 ghost use Rattle.model.specs.Numbers as numbers;
 ghost use Rattle.model.specs.Numbers.{clashes};
-ghost use Rattle.model.specs.Questions.{effectiveCountQ, generationQ, versionQ};
+ghost use Rattle.model.specs.Questions.{effectiveCountQ, effectiveQ, generationQ, versionQ};
 ghost use Rattle.model.specs.Record.{Block as Stored};
 ghost use Rattle.state.specs.Moves as moves;
 ghost use Rattle.state.specs.Sound.{SoundAt};
@@ -20,8 +22,11 @@ use block::Block;
 use block::Counted;
 use block::Done;
 use block::Header;
+use block::Listed;
 use block::Refusal;
+use block::Shown;
 use hash::Hash;
+use journal::Had;
 
 // Where a record goes: refused, in the room that its hash has, or in new room.
 pub enum Seated {
@@ -273,4 +278,58 @@ pub fn effective_count(mem: &[u64]) -> Counted
         return Counted::Refused(Refusal::Room);
     }
     Counted::Count(mem[11])
+}
+
+// The effective record of a hash, or none.
+pub fn effective(mem: &[u64], h: Hash) -> Shown
+    ensures { λ r. ⌜ Asked (effectiveQ (hashMeans h)) (now (mem .entry)) (shownNumber r) (shownReply r) ⌝ }
+{
+    let n = memory::room(mem);
+    if n == 0 {
+        return Shown::Refused(Refusal::Room);
+    }
+    let p = state::find(mem, n, h.first, h.second, h.third, h.fourth);
+    if n <= p {
+        return Shown::None;
+    }
+    state::show(mem, n, p)
+}
+
+// ---- changes ----
+
+// The k hashes touched since version v go into the list, if it has the places.
+fn hand_out(mem: &[u64], n: usize, v: u64, list: &mut [u8], k: usize) -> Listed
+    requires { ⌜ Laid (now mem) n ⌝ }
+    ensures { λ r. ⌜ ((g : ℕ) → (SoundAt (now (mem .entry)) n → Count k ≡ hadOf (changesOf (now (mem .entry)) n g v)) → ChangesAt g v (now (mem .entry)) n (now (list .entry)) (now (list .exit)) r) ⌝ }
+{
+    if list.len() / 32 < k {
+        return Listed::Refused(Refusal::List);
+    }
+    journal::write_changes(mem, n, v, list);
+    Listed::Count(k)
+}
+
+fn changes_in(mem: &[u64], n: usize, g: u64, v: u64, list: &mut [u8]) -> Listed
+    requires { ⌜ Laid (now mem) n ⌝ }
+    ensures { λ r. ⌜ ChangesAt g v (now (mem .entry)) n (now (list .entry)) (now (list .exit)) r ⌝ }
+{
+    match journal::changes_had(mem, n, g, v) {
+        Had::None => {
+            return Listed::None;
+        }
+        Had::Count(k) => {
+            return hand_out(mem, n, v, list, k);
+        }
+    }
+}
+
+// The distinct hashes touched since (g, v), in the order of their last touch, go into a lent list, 32 bytes each.
+pub fn changes(mem: &[u64], g: u64, v: u64, list: &mut [u8]) -> Listed
+    ensures { λ r. ⌜ Changes g v (now (mem .entry)) (now (list .entry)) (now (list .exit)) r ⌝ }
+{
+    let n = memory::room(mem);
+    if n == 0 {
+        return Listed::Refused(Refusal::Room);
+    }
+    changes_in(mem, n, g, v, list)
 }

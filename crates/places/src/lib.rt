@@ -81,17 +81,17 @@ fn tally(mem: &mut [u64], was: u64, is: u64)
 
 // ---- steps ----
 
-// The copy goes into its store, at a place that has room.
-pub fn replace(mem: &mut [u64], n: usize, p: usize, store: u64, copy: Copy)
+// The next copy goes into its store, at a place that has room.
+pub fn replace(mem: &mut [u64], n: usize, p: usize, store: u64, next: Copy)
     requires { ⌜ Laid (now mem) n × (p < n) ⌝ }
-    ensures { λ _. ⌜ ((b : Stored) → copyMeans copy ≡ b .copy → Replaces (now (mem .entry)) (now (mem .exit)) n p store b) ⌝ }
+    ensures { λ _. ⌜ ((b : Stored) → copyMeans next ≡ b .copy → Replaces (now (mem .entry)) (now (mem .exit)) n p store b) ⌝ }
 {
     if 2 < store {
         return;
     }
     let at = 64 + 68 * p;
     let was = status(mem, at);
-    rows::write_copy(mem, at + 20 + 12 * store as usize, copy);
+    rows::write_copy(mem, at + 20 + 12 * store as usize, next);
     let is = status(mem, at);
     tally(mem, was, is);
 }

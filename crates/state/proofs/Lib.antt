@@ -2,6 +2,7 @@
 pub mod ViewLaws
 pub mod SoundLaws
 pub mod FindLaws
+pub mod ShowLaws
 pub mod RowSteps
 pub mod HeadSteps
 pub mod TouchSteps

@@ -2,3 +2,4 @@
 pub mod View
 pub mod Sound
 pub mod Moves
+pub mod Handing
