@@ -1,9 +1,15 @@
 // Answers (docs/HISTORY.md, "Calls and their answers"): a line that begins with document 01's number, a list's entries below it.
+ghost use Prim.Native.Nat.{_+_, _≤_};
+ghost use lib.ListN.{length};
+use crate::blocks;
 use crate::write;
 use amount::Reading;
 use block::Counted;
 use block::Done;
+use block::Listed;
 use block::Refusal;
+use block::Shown;
+use hash::Hash;
 
 // ---- lines that begin with a question mark ----
 

@@ -177,7 +177,7 @@ pub fn changes(line: &[u8], mem: &[u64], list: &mut [u8], lent: u64) {
         return answers::no_call();
     }
     let n = lent_bytes(list.len(), lent);
-    let given = holdings::changes(mem, generation, version, &mut list[..n]);
+    let given = holdings::changes(mem, generation, version, &mut list[0..n]);
     answers::listed(given, list);
 }
 

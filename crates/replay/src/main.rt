@@ -11,6 +11,9 @@ mod write;
 ghost use Prim.Native.Nat.{_≤_};
 ghost use lib.ListN.{length};
 
+// The greatest length of a line and its end, in bytes.
+const TEXT: usize = 65536;
+
 // The lent memory, in words: 64 + 81 n + 8 j of them (docs/MEMORY.md), for 4,096 hashes and 4,096 journal entries.
 const WORDS: usize = 364608;
 
@@ -195,7 +198,7 @@ fn turn(text: &mut [u8], mem: &mut [u64], list: &mut [u8], left: Left) -> Left {
     }
     let got = more(&mut text[held..]);
     if got == 0 {
-        return end(&text[..held], mem, list, left);
+        return end(&text[0..held], mem, list, left);
     }
     let have = held + got;
     if !left.long {
@@ -231,9 +234,14 @@ fn replay(text: &mut [u8], mem: &mut [u64], list: &mut [u8]) {
     }
 }
 
+// (Arrays of a known length are made slices here, where nothing counts their elements.)
+fn replay_in(text: &mut [u8; TEXT], mem: &mut [u64; WORDS], list: &mut [u8; LIST]) {
+    replay(text, mem, list);
+}
+
 fn main() {
-    let mut text = io::large_buffer();
+    let mut text = [0u8; TEXT];
     let mut mem = [0u64; WORDS];
     let mut list = [0u8; LIST];
-    replay(&mut text, &mut mem, &mut list);
+    replay_in(&mut text, &mut mem, &mut list);
 }
