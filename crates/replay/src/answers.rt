@@ -1,7 +1,6 @@
 // Answers (docs/HISTORY.md, "Calls and their answers"): a line that begins with document 01's number, a list's entries below it.
-ghost use Prim.Native.Nat.{_+_, _≤_};
-ghost use lib.ListN.{length};
 use crate::blocks;
+use crate::lists;
 use crate::write;
 use amount::Reading;
 use block::Counted;
@@ -9,7 +8,6 @@ use block::Done;
 use block::Listed;
 use block::Refusal;
 use block::Shown;
-use hash::Hash;
 
 // ---- lines that begin with a question mark ----
 
@@ -92,42 +90,12 @@ pub fn reading(r: Reading) {
     write::out(b"\n");
 }
 
-// ---- lists of hashes ----
-
-// The hash of the 32 bytes from the place `at` on.
-fn hash_at(list: &[u8], at: usize) -> Hash
-    requires { ⌜ at + 32 ≤ length (now list) ⌝ }
-{
-    let mut bytes = [0u8; 32];
-    let mut i = 0;
-    while i < 32 {
-        bytes[i] = list[at + i];
-        i += 1;
-    }
-    hash::from_bytes(&bytes)
-}
-
-fn hashes(list: &[u8], n: usize) {
-    let mut at = 0;
-    let mut left = n;
-    while left > 0 {
-        if list.len() - at < 32 {
-            return;
-        }
-        write::out(b"  ");
-        write::hash(hash_at(list, at));
-        write::out(b"\n");
-        at += 32;
-        left -= 1;
-    }
-}
-
 pub fn listed(x: Listed, list: &[u8]) {
     match x {
         Listed::Count(n) => {
             write::out(b"0 ");
             number_alone(n as u64);
-            hashes(list, n);
+            lists::hashes(list, n);
         }
         Listed::None => none(),
         Listed::Refused(y) => refused(y),

@@ -16,8 +16,9 @@ use block::Copy;
 use block::Header;
 use block::Why;
 
+// STORE BLOCK
 pub enum Given {
-    Block(Block),
+    In(u64, Block),
     No,
 }
 
@@ -31,29 +32,25 @@ enum Copied {
     No,
 }
 
-// ---- reading: a block's words are those from number 2 on, behind the call and its store ----
-
-fn word(line: &[u8], i: usize) -> &[u8] {
-    words::nth(line, b' ', i)
-}
+// ---- reading: a block's words are those from number 2 on, behind the call's name and its store ----
 
 fn header(line: &[u8]) -> Headed {
-    let Hashed::Hash(hash) = words::hash(word(line, 2)) else {
+    let Hashed::Hash(hash) = words::hash(words::word(line, 2)) else {
         return Headed::No;
     };
-    let Numbered::Number(index) = words::number(word(line, 3)) else {
+    let Numbered::Number(index) = words::number(words::word(line, 3)) else {
         return Headed::No;
     };
-    let Numbered::Number(epoch) = words::number(word(line, 4)) else {
+    let Numbered::Number(epoch) = words::number(words::word(line, 4)) else {
         return Headed::No;
     };
-    let Hashed::Hash(prev) = words::hash(word(line, 5)) else {
+    let Hashed::Hash(prev) = words::hash(words::word(line, 5)) else {
         return Headed::No;
     };
-    let Quoted::Reads(target) = words::text(word(line, 6)) else {
+    let Quoted::Reads(target) = words::text(words::word(line, 6)) else {
         return Headed::No;
     };
-    let Quoted::Reads(actual) = words::text(word(line, 7)) else {
+    let Quoted::Reads(actual) = words::text(words::word(line, 7)) else {
         return Headed::No;
     };
     Headed::Header(Header {
@@ -67,16 +64,16 @@ fn header(line: &[u8]) -> Headed {
 }
 
 fn copy(line: &[u8]) -> Copied {
-    let Flagged::Flags(orphaned, canonical) = words::flags(word(line, 8)) else {
+    let Flagged::Flags(orphaned, canonical) = words::flags(words::word(line, 8)) else {
         return Copied::No;
     };
-    let Timed::Time(time) = words::time(word(line, 9)) else {
+    let Timed::Time(time) = words::time(words::word(line, 9)) else {
         return Copied::No;
     };
-    let Reasoned::Why(reason) = reasons::read(word(line, 10)) else {
+    let Reasoned::Why(reason) = reasons::read(words::word(line, 10)) else {
         return Copied::No;
     };
-    let Rival::Hash(competing) = words::other(word(line, 11)) else {
+    let Rival::Hash(competing) = words::other(words::word(line, 11)) else {
         return Copied::No;
     };
     Copied::Copy(Copy {
@@ -88,14 +85,21 @@ fn copy(line: &[u8]) -> Copied {
     })
 }
 
+// What a load and a put have behind their name.
 pub fn read(line: &[u8]) -> Given {
+    if !words::has(line, 12) {
+        return Given::No;
+    }
+    let Numbered::Number(store) = words::store(words::word(line, 1)) else {
+        return Given::No;
+    };
     let Headed::Header(header) = header(line) else {
         return Given::No;
     };
     let Copied::Copy(copy) = copy(line) else {
         return Given::No;
     };
-    Given::Block(Block { header, copy })
+    Given::In(store, Block { header, copy })
 }
 
 // ---- writing ----

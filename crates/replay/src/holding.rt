@@ -3,119 +3,90 @@
 use crate::answers;
 use crate::blocks;
 use crate::blocks::Given;
+use crate::lists;
 use crate::words;
 use crate::words::Hashed;
 use crate::words::Numbered;
+use crate::words::Pair;
 use crate::words::Quoted;
-ghost use Prim.Native.Nat.{_≤_};
 use block::Done;
-
-// A list as long as could be needed.
-pub const WHOLE: u64 = 18446744073709551615;
-
-fn word(line: &[u8], i: usize) -> &[u8] {
-    words::nth(line, b' ', i)
-}
-
-// Whether the line has so many words.
-fn has(line: &[u8], n: usize) -> bool {
-    words::count(line, b' ') == n
-}
 
 // ---- start, reload ----
 
 // Answers the length that later lists are lent at.
 pub fn start(line: &[u8], mem: &mut [u64], lent: u64) -> u64 {
-    let Numbered::Number(hashes) = words::number(word(line, 1)) else {
+    let Numbered::Number(hashes) = words::number(words::word(line, 1)) else {
         answers::no_call();
         return lent;
     };
-    let Numbered::Number(journal) = words::number(word(line, 2)) else {
+    let Numbered::Number(journal) = words::number(words::word(line, 2)) else {
         answers::no_call();
         return lent;
     };
-    let Numbered::Number(generation) = words::number(word(line, 3)) else {
+    let Numbered::Number(generation) = words::number(words::word(line, 3)) else {
         answers::no_call();
         return lent;
     };
-    let Numbered::Number(version) = words::number(word(line, 4)) else {
+    let Numbered::Number(version) = words::number(words::word(line, 4)) else {
         answers::no_call();
         return lent;
     };
-    if !has(line, 5) {
+    if !words::has(line, 5) {
         answers::no_call();
         return lent;
     }
     let given = clearing::start(mem, hashes, journal, generation, version);
     answers::begun(given);
     match given {
-        Done::Done => WHOLE,
+        Done::Done => lists::WHOLE,
         Done::Refused(_) => lent,
     }
 }
 
 pub fn reload(line: &[u8], mem: &mut [u64]) {
-    let Numbered::Number(generation) = words::number(word(line, 1)) else {
+    let Pair::Numbers(generation, version) = words::two_numbers(line) else {
         return answers::no_call();
     };
-    let Numbered::Number(version) = words::number(word(line, 2)) else {
-        return answers::no_call();
-    };
-    if !has(line, 3) {
-        return answers::no_call();
-    }
     answers::done(clearing::reload(mem, generation, version));
 }
 
 // ---- records ----
 
 pub fn load(line: &[u8], mem: &mut [u64]) {
-    let Numbered::Number(store) = words::store(word(line, 1)) else {
+    let Given::In(store, b) = blocks::read(line) else {
         return answers::no_call();
     };
-    let Given::Block(b) = blocks::read(line) else {
-        return answers::no_call();
-    };
-    if !has(line, 12) {
-        return answers::no_call();
-    }
     answers::done(holdings::load(mem, store, b));
 }
 
 pub fn put(line: &[u8], mem: &mut [u64]) {
-    let Numbered::Number(store) = words::store(word(line, 1)) else {
+    let Given::In(store, b) = blocks::read(line) else {
         return answers::no_call();
     };
-    let Given::Block(b) = blocks::read(line) else {
-        return answers::no_call();
-    };
-    if !has(line, 12) {
-        return answers::no_call();
-    }
     answers::done(holdings::put(mem, store, b));
 }
 
 pub fn remove(line: &[u8], mem: &mut [u64]) {
-    let Numbered::Number(store) = words::store(word(line, 1)) else {
+    let Numbered::Number(store) = words::store(words::word(line, 1)) else {
         return answers::no_call();
     };
-    let Hashed::Hash(h) = words::hash(word(line, 2)) else {
+    let Hashed::Hash(h) = words::hash(words::word(line, 2)) else {
         return answers::no_call();
     };
-    if !has(line, 3) {
+    if !words::has(line, 3) {
         return answers::no_call();
     }
     answers::done(holdings::remove(mem, store, h));
 }
 
 pub fn answer(line: &[u8], mem: &mut [u64]) {
-    let Hashed::Hash(h) = words::hash(word(line, 1)) else {
+    let Hashed::Hash(h) = words::hash(words::word(line, 1)) else {
         return answers::no_call();
     };
-    let Numbered::Number(value) = words::number(word(line, 2)) else {
+    let Numbered::Number(value) = words::number(words::word(line, 2)) else {
         return answers::no_call();
     };
-    if !has(line, 3) {
+    if !words::has(line, 3) {
         return answers::no_call();
     }
     answers::done(holdings::answer(mem, h, value));
@@ -124,59 +95,38 @@ pub fn answer(line: &[u8], mem: &mut [u64]) {
 // ---- questions ----
 
 pub fn generation(line: &[u8], mem: &[u64]) {
-    if !has(line, 1) {
+    if !words::has(line, 1) {
         return answers::no_call();
     }
     answers::counted(holdings::generation(mem));
 }
 
 pub fn version(line: &[u8], mem: &[u64]) {
-    if !has(line, 1) {
+    if !words::has(line, 1) {
         return answers::no_call();
     }
     answers::counted(holdings::version(mem));
 }
 
 pub fn count(line: &[u8], mem: &[u64]) {
-    if !has(line, 1) {
+    if !words::has(line, 1) {
         return answers::no_call();
     }
     answers::counted(holdings::effective_count(mem));
 }
 
 pub fn effective(line: &[u8], mem: &[u64]) {
-    let Hashed::Hash(h) = words::hash(word(line, 1)) else {
+    let Hashed::Hash(h) = words::one_hash(line) else {
         return answers::no_call();
     };
-    if !has(line, 2) {
-        return answers::no_call();
-    }
     answers::shown(holdings::effective(mem, h));
 }
 
-// The bytes of a list of so many hashes, at most those there are.
-fn lent_bytes(room: usize, lent: u64) -> usize
-    ensures { λ r. ⌜ r ≤ room ⌝ }
-{
-    let places = room / 32;
-    if lent < places as u64 {
-        32 * lent as usize
-    } else {
-        32 * places
-    }
-}
-
 pub fn changes(line: &[u8], mem: &[u64], list: &mut [u8], lent: u64) {
-    let Numbered::Number(generation) = words::number(word(line, 1)) else {
+    let Pair::Numbers(generation, version) = words::two_numbers(line) else {
         return answers::no_call();
     };
-    let Numbered::Number(version) = words::number(word(line, 2)) else {
-        return answers::no_call();
-    };
-    if !has(line, 3) {
-        return answers::no_call();
-    }
-    let n = lent_bytes(list.len(), lent);
+    let n = lists::lent_bytes(list.len(), lent);
     let given = holdings::changes(mem, generation, version, &mut list[0..n]);
     answers::listed(given, list);
 }
@@ -184,10 +134,10 @@ pub fn changes(line: &[u8], mem: &[u64], list: &mut [u8], lent: u64) {
 // ---- amounts and lent lists, which ask no memory but whether there was a start ----
 
 pub fn amount(line: &[u8], mem: &[u64]) {
-    let Quoted::Reads(r) = words::text(word(line, 1)) else {
+    let Quoted::Reads(r) = words::text(words::word(line, 1)) else {
         return answers::no_call();
     };
-    if !has(line, 2) {
+    if !words::has(line, 2) {
         return answers::no_call();
     }
     if memory::room(mem) == 0 {
@@ -199,18 +149,18 @@ pub fn amount(line: &[u8], mem: &[u64]) {
 // `-`, or a NUMBER.
 fn length(word: &[u8]) -> Numbered {
     if words::is(word, b"-") {
-        return Numbered::Number(WHOLE);
+        return Numbered::Number(lists::WHOLE);
     }
     words::number(word)
 }
 
 // Answers the length that later lists are lent at.
 pub fn lend(line: &[u8], mem: &[u64], lent: u64) -> u64 {
-    let Numbered::Number(n) = length(word(line, 1)) else {
+    let Numbered::Number(n) = length(words::word(line, 1)) else {
         answers::no_call();
         return lent;
     };
-    if !has(line, 2) {
+    if !words::has(line, 2) {
         answers::no_call();
         return lent;
     }

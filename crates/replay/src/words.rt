@@ -51,6 +51,12 @@ pub enum Flagged {
     No,
 }
 
+// Two numbers.
+pub enum Pair {
+    Numbers(u64, u64),
+    No,
+}
+
 // ---- where words stand ----
 
 // Where the word that begins at `at` ends. A TEXT may hold the separator, so in one it is looked for behind the second quote.
@@ -101,6 +107,16 @@ pub fn nth(line: &[u8], separator: u8, i: usize) -> &[u8] {
     let at = begin(line, separator, i);
     let end = word_end(line, separator, at);
     &line[at..end]
+}
+
+// The word number i of a line.
+pub fn word(line: &[u8], i: usize) -> &[u8] {
+    nth(line, b' ', i)
+}
+
+// Whether a line has so many words.
+pub fn has(line: &[u8], n: usize) -> bool {
+    count(line, b' ') == n
 }
 
 pub fn is(word: &[u8], name: &[u8]) -> bool {
@@ -314,4 +330,28 @@ pub fn flags(word: &[u8]) -> Flagged {
         return Flagged::Flags(true, true);
     }
     Flagged::No
+}
+
+// ---- what several calls have behind their name, and nothing more ----
+
+// HASH
+pub fn one_hash(line: &[u8]) -> Hashed {
+    if !has(line, 2) {
+        return Hashed::No;
+    }
+    hash(word(line, 1))
+}
+
+// GENERATION VERSION
+pub fn two_numbers(line: &[u8]) -> Pair {
+    if !has(line, 3) {
+        return Pair::No;
+    }
+    let Numbered::Number(a) = number(word(line, 1)) else {
+        return Pair::No;
+    };
+    let Numbered::Number(b) = number(word(line, 2)) else {
+        return Pair::No;
+    };
+    Pair::Numbers(a, b)
 }

@@ -1,10 +1,10 @@
--- `replay::answers::hash_at` is safe and ends: the 32 bytes lie in the list.
+-- `replay::lists::hash_at` is safe and ends: the 32 bytes lie in the list.
 use Prim.Native.Nat.{_-_, _≤_}
 use mathlib.Core.Path.{_≡_}
 use lib.ListN.{length}
 use borrow.Author.Needs.{needs}
-use Rattle.replay.proofs.answers.hash_at.Statement.{statement}
-use Rattle.replay.proofs.answers.hash_at.Tie as tie
+use Rattle.replay.proofs.lists.hash_at.Statement.{statement}
+use Rattle.replay.proofs.lists.hash_at.Tie as tie
 
 abbrev Inv-loop : tie.InvT-loop
 Inv-loop list at bytes₀ i₀ bytes i = (i ≤ 32) × (length bytes ≡ 32)

@@ -1,9 +1,9 @@
--- `replay::answers::hashes` is safe and ends: the place of the next hash stays in the list.
+-- `replay::lists::hashes` is safe and ends: the place of the next hash stays in the list.
 use Prim.Native.Nat.{_≤_}
 use lib.ListN.{length}
 use borrow.Author.Needs.{needs}
-use Rattle.replay.proofs.answers.hashes.Statement.{statement}
-use Rattle.replay.proofs.answers.hashes.Tie as tie
+use Rattle.replay.proofs.lists.hashes.Statement.{statement}
+use Rattle.replay.proofs.lists.hashes.Tie as tie
 
 abbrev Inv-loop : tie.InvT-loop
 Inv-loop list n at₀ left₀ t5 t6 at left = at ≤ length list
