@@ -24,89 +24,52 @@ const LIST: usize = 1457824;
 
 // ---- a line ----
 
-// The calls on the tree, which the library does not have yet.
-fn tree_call(name: &[u8]) {
-    if words::is(name, b"sync") {
-        return answers::not_yet();
+// The calls that the library does not have yet.
+fn later(name: &[u8]) {
+    match words::place(
+        name,
+        b"sync node parent linked clinked best cbest ccount live leaves select adopt choose",
+    ) {
+        0..=12 => answers::not_yet(),
+        _ => answers::no_call(),
     }
-    if words::is(name, b"node") {
-        return answers::not_yet();
-    }
-    if words::is(name, b"parent") {
-        return answers::not_yet();
-    }
-    if words::is(name, b"linked") {
-        return answers::not_yet();
-    }
-    if words::is(name, b"clinked") {
-        return answers::not_yet();
-    }
-    if words::is(name, b"best") {
-        return answers::not_yet();
-    }
-    if words::is(name, b"cbest") {
-        return answers::not_yet();
-    }
-    if words::is(name, b"ccount") {
-        return answers::not_yet();
-    }
-    if words::is(name, b"live") {
-        return answers::not_yet();
-    }
-    if words::is(name, b"leaves") {
-        return answers::not_yet();
-    }
-    if words::is(name, b"select") {
-        return answers::not_yet();
-    }
-    if words::is(name, b"adopt") {
-        return answers::not_yet();
-    }
-    if words::is(name, b"choose") {
-        return answers::not_yet();
-    }
-    answers::no_call();
 }
 
 fn question(name: &[u8], line: &[u8], mem: &[u64]) {
-    if words::is(name, b"effective") {
-        return holding::effective(line, mem);
+    match words::place(name, b"effective count generation version amount") {
+        0 => holding::effective(line, mem),
+        1 => holding::count(line, mem),
+        2 => holding::generation(line, mem),
+        3 => holding::version(line, mem),
+        4 => holding::amount(line, mem),
+        _ => later(name),
     }
-    if words::is(name, b"count") {
-        return holding::count(line, mem);
-    }
-    if words::is(name, b"generation") {
-        return holding::generation(line, mem);
-    }
-    if words::is(name, b"version") {
-        return holding::version(line, mem);
-    }
-    if words::is(name, b"amount") {
-        return holding::amount(line, mem);
-    }
-    tree_call(name);
 }
 
 fn call(name: &[u8], line: &[u8], mem: &mut [u64]) {
-    if words::is(name, b"put") {
-        return holding::put(line, mem);
+    match words::place(name, b"reload load put remove answer") {
+        0 => holding::reload(line, mem),
+        1 => holding::load(line, mem),
+        2 => holding::put(line, mem),
+        3 => holding::remove(line, mem),
+        4 => holding::answer(line, mem),
+        _ => question(name, line, mem),
     }
-    if words::is(name, b"load") {
-        return holding::load(line, mem);
-    }
-    if words::is(name, b"remove") {
-        return holding::remove(line, mem);
-    }
-    if words::is(name, b"answer") {
-        return holding::answer(line, mem);
-    }
-    if words::is(name, b"reload") {
-        return holding::reload(line, mem);
-    }
-    question(name, line, mem);
 }
 
-// Answers a line, and gives the length that later lists are lent at.
+// Answers a call, and gives the length that later lists are lent at.
+fn answer_call(line: &[u8], mem: &mut [u64], list: &mut [u8], lent: u64) -> u64 {
+    let name = words::word(line, 0);
+    match words::place(name, b"start lend changes") {
+        0 => return holding::start(line, mem, lent),
+        1 => return holding::lend(line, mem, lent),
+        2 => holding::changes(line, mem, list, lent),
+        _ => call(name, line, mem),
+    }
+    lent
+}
+
+// An empty line and a remark answer nothing.
 fn answer(line: &[u8], mem: &mut [u64], list: &mut [u8], lent: u64) -> u64 {
     if line.len() == 0 {
         return lent;
@@ -114,19 +77,7 @@ fn answer(line: &[u8], mem: &mut [u64], list: &mut [u8], lent: u64) -> u64 {
     if line[0] == b'#' {
         return lent;
     }
-    let name = words::nth(line, b' ', 0);
-    if words::is(name, b"start") {
-        return holding::start(line, mem, lent);
-    }
-    if words::is(name, b"changes") {
-        holding::changes(line, mem, list, lent);
-        return lent;
-    }
-    if words::is(name, b"lend") {
-        return holding::lend(line, mem, lent);
-    }
-    call(name, line, mem);
-    lent
+    answer_call(line, mem, list, lent)
 }
 
 // ---- the lines of a text ----

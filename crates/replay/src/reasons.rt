@@ -57,44 +57,39 @@ fn amount(word: &[u8]) -> Summed {
 }
 
 fn plain(kind: &[u8]) -> Reasoned {
-    if words::is(kind, b"neither") {
-        return because(Reason::Neither);
+    match words::place(
+        kind,
+        b"neither peer-hash local-hash off-spine competing stale",
+    ) {
+        0 => because(Reason::Neither),
+        1 => because(Reason::PeerHash),
+        2 => because(Reason::LocalHash),
+        3 => because(Reason::OffSpine),
+        4 => because(Reason::CompetingFork),
+        5 => because(Reason::StaleFork),
+        _ => Reasoned::No,
     }
-    if words::is(kind, b"peer-hash") {
-        return because(Reason::PeerHash);
+}
+
+fn same_tip(word: &[u8]) -> Reasoned {
+    match words::hash(word) {
+        Hashed::Hash(h) => because(Reason::SameTip(h)),
+        Hashed::No => Reasoned::No,
     }
-    if words::is(kind, b"local-hash") {
-        return because(Reason::LocalHash);
-    }
-    if words::is(kind, b"off-spine") {
-        return because(Reason::OffSpine);
-    }
-    if words::is(kind, b"competing") {
-        return because(Reason::CompetingFork);
-    }
-    if words::is(kind, b"stale") {
-        return because(Reason::StaleFork);
-    }
-    Reasoned::No
 }
 
 fn one(kind: &[u8], word: &[u8]) -> Reasoned {
     if words::is(kind, b"same-tip") {
-        let Hashed::Hash(h) = words::hash(word) else {
-            return Reasoned::No;
-        };
-        return because(Reason::SameTip(h));
+        return same_tip(word);
     }
     let Summed::Amount(a) = amount(word) else {
         return Reasoned::No;
     };
-    if words::is(kind, b"peer-only") {
-        return because(Reason::PeerOnly(a));
+    match words::place(kind, b"peer-only local-only") {
+        0 => because(Reason::PeerOnly(a)),
+        1 => because(Reason::LocalOnly(a)),
+        _ => Reasoned::No,
     }
-    if words::is(kind, b"local-only") {
-        return because(Reason::LocalOnly(a));
-    }
-    Reasoned::No
 }
 
 fn two_works(kind: &[u8], first: &[u8], second: &[u8]) -> Reasoned {
@@ -104,13 +99,11 @@ fn two_works(kind: &[u8], first: &[u8], second: &[u8]) -> Reasoned {
     let Summed::Amount(b) = amount(second) else {
         return Reasoned::No;
     };
-    if words::is(kind, b"peer-work") {
-        return because(Reason::PeerWork(a, b));
+    match words::place(kind, b"peer-work local-work") {
+        0 => because(Reason::PeerWork(a, b)),
+        1 => because(Reason::LocalWork(a, b)),
+        _ => Reasoned::No,
     }
-    if words::is(kind, b"local-work") {
-        return because(Reason::LocalWork(a, b));
-    }
-    Reasoned::No
 }
 
 fn two_tips(kind: &[u8], first: &[u8], second: &[u8]) -> Reasoned {
@@ -120,13 +113,11 @@ fn two_tips(kind: &[u8], first: &[u8], second: &[u8]) -> Reasoned {
     let Numbered::Number(j) = words::number(second) else {
         return Reasoned::No;
     };
-    if words::is(kind, b"peer-tip") {
-        return because(Reason::PeerTip(i, j));
+    match words::place(kind, b"peer-tip local-tip") {
+        0 => because(Reason::PeerTip(i, j)),
+        1 => because(Reason::LocalTip(i, j)),
+        _ => Reasoned::No,
     }
-    if words::is(kind, b"local-tip") {
-        return because(Reason::LocalTip(i, j));
-    }
-    Reasoned::No
 }
 
 // (A word is an AMOUNT, which begins with 0x, or a NUMBER, and never both.)

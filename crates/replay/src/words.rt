@@ -133,6 +133,19 @@ pub fn is(word: &[u8], name: &[u8]) -> bool {
     true
 }
 
+// The number of a word among names, counted from 0; how many there are where it is none of them.
+pub fn place(word: &[u8], names: &[u8]) -> usize {
+    let n = count(names, b' ');
+    let mut i = 0;
+    while i < n {
+        if is(word, nth(names, b' ', i)) {
+            return i;
+        }
+        i += 1;
+    }
+    n
+}
+
 // ---- numbers ----
 
 // 10 for what is no digit.
@@ -317,19 +330,13 @@ pub fn text(word: &[u8]) -> Quoted {
 
 // Orphaned, canonical.
 pub fn flags(word: &[u8]) -> Flagged {
-    if is(word, b"-") {
-        return Flagged::Flags(false, false);
+    match place(word, b"- o c oc") {
+        0 => Flagged::Flags(false, false),
+        1 => Flagged::Flags(true, false),
+        2 => Flagged::Flags(false, true),
+        3 => Flagged::Flags(true, true),
+        _ => Flagged::No,
     }
-    if is(word, b"o") {
-        return Flagged::Flags(true, false);
-    }
-    if is(word, b"c") {
-        return Flagged::Flags(false, true);
-    }
-    if is(word, b"oc") {
-        return Flagged::Flags(true, true);
-    }
-    Flagged::No
 }
 
 // ---- what several calls have behind their name, and nothing more ----
