@@ -143,42 +143,51 @@ pub fn read(word: &[u8]) -> Reasoned {
 
 // ---- writing ----
 
-fn works(kind: &[u8], a: Amount, b: Amount) {
-    write::out(kind);
+// The place of a reason's word among those that `write` knows.
+fn kind(reason: Reason) -> usize {
+    match reason {
+        Reason::SameTip(_) => 0,
+        Reason::Neither => 1,
+        Reason::PeerOnly(_) => 2,
+        Reason::LocalOnly(_) => 3,
+        Reason::PeerWork(_, _) => 4,
+        Reason::LocalWork(_, _) => 5,
+        Reason::PeerTip(_, _) => 6,
+        Reason::LocalTip(_, _) => 7,
+        Reason::PeerHash => 8,
+        Reason::LocalHash => 9,
+        Reason::OffSpine => 10,
+        Reason::CompetingFork => 11,
+        Reason::StaleFork => 12,
+    }
+}
+
+fn works(a: Amount, b: Amount) {
     write::amount(a);
     write::out(b":");
     write::amount(b);
 }
 
-fn tips(kind: &[u8], i: u64, j: u64) {
-    write::out(kind);
+fn tips(i: u64, j: u64) {
     write::number(i);
     write::out(b":");
     write::number(j);
 }
 
-fn work(kind: &[u8], a: Amount) {
-    write::out(kind);
-    write::amount(a);
+fn numbers(reason: Reason) {
+    match reason {
+        Reason::SameTip(h) => write::hash(h),
+        Reason::PeerOnly(a) | Reason::LocalOnly(a) => write::amount(a),
+        Reason::PeerWork(a, b) | Reason::LocalWork(a, b) => works(a, b),
+        Reason::PeerTip(i, j) | Reason::LocalTip(i, j) => tips(i, j),
+        Reason::Neither | Reason::PeerHash | Reason::LocalHash => {}
+        Reason::OffSpine | Reason::CompetingFork | Reason::StaleFork => {}
+    }
 }
 
 pub fn write(reason: Reason) {
-    match reason {
-        Reason::SameTip(h) => {
-            write::out(b"same-tip:");
-            write::hash(h);
-        }
-        Reason::Neither => write::out(b"neither"),
-        Reason::PeerOnly(a) => work(b"peer-only:", a),
-        Reason::LocalOnly(a) => work(b"local-only:", a),
-        Reason::PeerWork(a, b) => works(b"peer-work:", a, b),
-        Reason::LocalWork(a, b) => works(b"local-work:", a, b),
-        Reason::PeerTip(i, j) => tips(b"peer-tip:", i, j),
-        Reason::LocalTip(i, j) => tips(b"local-tip:", i, j),
-        Reason::PeerHash => write::out(b"peer-hash"),
-        Reason::LocalHash => write::out(b"local-hash"),
-        Reason::OffSpine => write::out(b"off-spine"),
-        Reason::CompetingFork => write::out(b"competing"),
-        Reason::StaleFork => write::out(b"stale"),
-    }
+    let words: &[u8] =
+        b"same-tip: neither peer-only: local-only: peer-work: local-work: peer-tip: local-tip: peer-hash local-hash off-spine competing stale";
+    write::out(words::nth(words, b' ', kind(reason)));
+    numbers(reason);
 }
