@@ -4,18 +4,20 @@ ghost use mathlib.Core.Path.{_≡_};
 ghost use Prim.Native.Nat.{ℕ, _+_, _*_, _≤_, _<_};
 ghost use lib.ListN.{length};
 ghost use Rattle.block.specs.Records.{copyMeans, headerMeans};
+ghost use Rattle.model.specs.Holding.{isCanonical, isLive};
 ghost use Rattle.model.specs.Record.{Block as Stored};
 ghost use Rattle.memory.specs.Layout.{Laid};
 ghost use Rattle.places.specs.Status.{Says, Moved, Tallied, liveBy, canonicalBy};
 ghost use Rattle.places.specs.Steps.{Replaces, TakesOut, Marks};
 ghost use Rattle.places.specs.Admits.{Fills, Joins, Admits};
+ghost use Rattle.state.specs.View.{cellsOf};
 use block::Copy;
 use block::Header;
 
 // ---- the effective copy of a row, and the counts ----
 
 // The state word of the effective copy of the row at `at`; 0 where there is none.
-fn status(mem: &[u64], at: usize) -> u64
+pub fn status(mem: &[u64], at: usize) -> u64
     requires { ⌜ at + 68 ≤ length (now mem) ⌝ }
     ensures { λ r. ⌜ Says (now (mem .entry)) at r ⌝ }
 {
@@ -42,6 +44,30 @@ fn is_canonical(w: u64) -> bool
         return false;
     }
     (w - 1) / 2 % 2 == 1
+}
+
+// Whether the block at a place is live; a free place has none.
+pub fn live(mem: &[u64], n: usize, p: usize) -> bool
+    requires { ⌜ Laid (now mem) n × (p < n) ⌝ }
+    ensures { λ r. ⌜ r ≡ isLive (cellsOf (now (mem .entry)) n p) ⌝ }
+{
+    let at = 64 + 68 * p;
+    if mem[at] != 1 {
+        return false;
+    }
+    is_live(status(mem, at))
+}
+
+// .. and whether it is canonical.
+pub fn canonical(mem: &[u64], n: usize, p: usize) -> bool
+    requires { ⌜ Laid (now mem) n × (p < n) ⌝ }
+    ensures { λ r. ⌜ r ≡ isCanonical (cellsOf (now (mem .entry)) n p) ⌝ }
+{
+    let at = 64 + 68 * p;
+    if mem[at] != 1 {
+        return false;
+    }
+    is_canonical(status(mem, at))
 }
 
 // (On a memory that no call left a count stays where it would wrap.)

@@ -5,4 +5,5 @@ pub mod FindLaws
 pub mod ShowLaws
 pub mod RowSteps
 pub mod HeadSteps
+pub mod TreeSteps
 pub mod TouchSteps

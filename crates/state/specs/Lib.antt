@@ -3,3 +3,4 @@ pub mod View
 pub mod Sound
 pub mod Moves
 pub mod Handing
+pub mod TreeOnly

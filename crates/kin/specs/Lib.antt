@@ -1,0 +1,3 @@
+-- Linked children and leaves.
+pub mod Kin
+pub mod Relinked

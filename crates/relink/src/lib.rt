@@ -1,0 +1,1 @@
+// The turns of a sync (document 01, "Standing in the tree").

@@ -1,0 +1,15 @@
+-- `standing::alike` meets its contract.
+use Rattle.standing.proofs.ValueLaws.{beq-true}
+use borrow.Author.Needs.{needs}
+use Rattle.standing.proofs.alike.Statement.{statement}
+use Rattle.standing.proofs.alike.Tie as tie
+
+returns : tie.Need-returns
+returns c = rw (c .if1 .taken) (beq-true _)
+
+pub alike-spec : {M : Type 1} → statement M
+alike-spec =
+    tie.close
+    (tie.spec
+    returns
+    (λ c. search needs))

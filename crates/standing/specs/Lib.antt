@@ -1,0 +1,3 @@
+-- What the functions on the value of one place promise.
+pub mod Values
+pub mod Work
