@@ -15,6 +15,9 @@ ghost use lib.ListN.{length};
 // The greatest length of a line and its end, in bytes.
 const TEXT: usize = 65536;
 
+// How many bytes are read at a time.
+const PART: usize = 4096;
+
 // The lent memory, in words: 64 + 81 n + 8 j of them (docs/MEMORY.md), for 4,096 hashes and 4,096 journal entries.
 const WORDS: usize = 364608;
 
@@ -116,6 +119,14 @@ struct Left {
     ended: bool,
 }
 
+// Where what is read next ends: a part behind what is held, or where the text ends.
+fn part_end(held: usize, n: usize) -> usize
+    requires { ⌜ held ≤ n ⌝ }
+    ensures { λ r. ⌜ (held ≤ r) × (r ≤ n) ⌝ }
+{
+    if n - held < PART { n } else { held + PART }
+}
+
 // Reads once.
 fn more(room: &mut [u8]) -> usize
     ensures { λ r. ⌜ r ≤ length (now (room .entry)) ⌝ }
@@ -184,7 +195,8 @@ fn turn(text: &mut [u8], mem: &mut [u64], list: &mut [u8], left: Left) -> Left {
             ended: false,
         };
     }
-    let got = more(&mut text[held..]);
+    let to = part_end(held, text.len());
+    let got = more(&mut text[held..to]);
     if got == 0 {
         return end(&text[0..held], mem, list, left);
     }
