@@ -1,13 +1,13 @@
 -- Document 01, "Comparing two chains": each part of the comparison as its tests turned out, and that the parts are the model's `byWork`.
 use Prim.Native.Nat.{ℕ, _<_, _≤_}
-use mathlib.Core.Path.{_≡_, refl}
+use mathlib.Core.Path.{_≡_}
 use mathlib.Core.Bool.{true, false}
 use native.Mathlib.Nat.{le-of-lt}
 use lib.Dec.{eqb, ltb}
 use borrow.Author.Tests.{lt-ltb, le-ltb}
 use Rattle.amount.proofs.Promises.{Tests}
 use Rattle.model.specs.Record.{sameTip, neither, peerOnly, localOnly, peerWork, localWork, peerTip, localTip, peerHash, localHash}
-use Rattle.model.specs.Comparing.{Work, known, unknown, Side, Comparison, _because_, equal, keepLocal, adoptPeer, byWork, chooseVerified}
+use Rattle.model.specs.Comparing.{known, unknown, Side, Comparison, _because_, equal, keepLocal, adoptPeer, byWork, chooseVerified}
 use Rattle.choice.specs.Parts.{byHash, byTip, byTotal}
 
 module _ (us them : ℕ) where

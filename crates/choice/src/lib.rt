@@ -5,7 +5,7 @@ ghost use Rattle.amount.specs.Value.{value};
 ghost use Rattle.block.specs.Answers.{choiceMeans, sideMeans};
 ghost use Rattle.block.specs.Records.{hashMeans, reasonMeans};
 ghost use Rattle.choice.specs.Parts.{Covering, byHash, byTip, byTotal};
-ghost use Rattle.model.specs.Comparing.{_because_, adoptPeer, chooseVerified, equal, keepLocal, saturated};
+ghost use Rattle.model.specs.Comparing.{_because_, adoptPeer, chooseVerified, keepLocal, saturated};
 ghost use mathlib.Core.Path.{_≡_};
 use amount::Amount;
 use amount::Order;

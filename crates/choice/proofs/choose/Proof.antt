@@ -1,7 +1,6 @@
 -- `choice::choose` meets its contract. Each arm is one case of the definition.
 use borrow.Author.Needs.{needs}
 use mathlib.Core.Path.{sym, ap, _∙_}
-use Rattle.amount.specs.Value.{value}
 use Rattle.block.specs.Answers.{sideMeans, workMeans}
 use Rattle.choice.proofs.ChoiceLaws.{same-hash, both-unknown, only-peer, only-local, both-known}
 use Rattle.choice.proofs.choose.Statement.{statement}
