@@ -1,8 +1,7 @@
 -- A walk that is noted place by place: the words that may change leave the tree of the memory alone, and what is noted is the walk's front.
 use mathlib.Core.Path.{_≡_, refl, sym, ap, _∙_}
 use mathlib.Core.List.{List, [], _∷_}
-use mathlib.Core.Option.{Option, none, some}
-use Prim.Native.Nat.{ℕ, suc, _+_, _*_, _-_, _≤_, _<_}
+use Prim.Native.Nat.{ℕ, suc, _+_, _≤_, _<_}
 use native.Mathlib.Omega.{arith}
 use lib.ListN.{length, getD}
 use lib.Dec.{eqb}
@@ -14,7 +13,7 @@ use Rattle.model.specs.Holding.{Holdings}
 use Rattle.model.specs.Standing.{parent}
 use Rattle.model.specs.Walks.{walk}
 use Rattle.model.proofs.Tools.{byBool}
-use Rattle.state.specs.Sound.{SoundAt, Used, placed}
+use Rattle.state.specs.Sound.{SoundAt, placed}
 use Rattle.state.specs.View.{viewAt}
 use Rattle.state.specs.TreeOnly.{TreeOnly}
 use Rattle.state.proofs.FindLaws.{placed-in, placed-out}

@@ -1,20 +1,20 @@
 -- Whether a place is on a walk that is noted: indexes fall by one at each step, so a place stands at the distance of its index from the top's, or nowhere.
-use mathlib.Core.Path.{_≡_, refl, sym, ap, _∙_}
-use mathlib.Core.Bool.{Bool, true, false}
+use mathlib.Core.Path.{_≡_, sym, _∙_}
+use mathlib.Core.Bool.{true, false}
 use mathlib.Core.List.{List, [], _∷_}
-use mathlib.Core.Option.{Option, none, some}
-use Prim.Native.Nat.{ℕ, zero, suc, _+_, _*_, _-_, _≤_, _<_}
+use mathlib.Core.Option.{some}
+use Prim.Native.Nat.{ℕ, zero, suc, _+_, _-_, _≤_, _<_}
 use native.Mathlib.Omega.{arith}
 use lib.ListN.{length, getD}
 use lib.Dec.{eqb}
-use borrow.Author.Tests.{eqb-true, eqb-false, eq-eqb, ne-eqb}
+use borrow.Author.Tests.{eqb-true, eqb-false}
 use Rattle.memory.specs.Words.{word}
 use Rattle.memory.specs.Layout.{row}
 use Rattle.model.specs.Lists.{elem}
 use Rattle.model.specs.Holding.{Holdings, indexOf}
 use Rattle.model.specs.Standing.{parent}
 use Rattle.model.specs.Walks.{walk, onward}
-use Rattle.model.proofs.Tools.{byBool, byOption, no-both}
+use Rattle.model.proofs.Tools.{byBool, byOption}
 use Rattle.model.proofs.ListLaws.{elem-nil, elem-head, elem-cases}
 use Rattle.model.proofs.WalkLaws.{parent-index, walk-is, walk-index, upward}
 use Rattle.state.specs.Sound.{SoundAt, Used}
