@@ -2,3 +2,4 @@
 pub mod CodeLaws
 pub mod FirstLaws
 pub mod ForgetLaws
+pub mod UserLaws
