@@ -1,11 +1,12 @@
 // Replays a history (docs/HISTORY.md) on the library: calls on standard input, a line each, and their answers on standard output.
-// This file reads the lines and tells the calls apart; `holding` makes the calls, `words`, `reasons` and `blocks` read what
-// stands in a line, `answers`, `lists` and `write` write.
+// This file reads the lines and tells the calls apart; `holding` and `standing` make the calls, `words`, `reasons` and `blocks` read
+// what stands in a line, `answers`, `lists` and `write` write.
 mod answers;
 mod blocks;
 mod holding;
 mod lists;
 mod reasons;
+mod standing;
 mod words;
 mod write;
 
@@ -29,12 +30,24 @@ const LIST: usize = 1457824;
 
 // The calls that the library does not have yet.
 fn later(name: &[u8]) {
-    match words::place(
-        name,
-        b"sync node parent linked clinked best cbest ccount live leaves select adopt choose",
-    ) {
-        0..=12 => answers::not_yet(),
+    match words::place(name, b"leaves select adopt choose") {
+        0..=3 => answers::not_yet(),
         _ => answers::no_call(),
+    }
+}
+
+// A question about the tree.
+fn tree_question(name: &[u8], line: &[u8], mem: &[u64]) {
+    match words::place(name, b"node parent linked clinked best cbest ccount live") {
+        0 => standing::node(line, mem),
+        1 => standing::parent(line, mem),
+        2 => standing::linked(line, mem),
+        3 => standing::canonical_linked(line, mem),
+        4 => standing::best(line, mem),
+        5 => standing::canonical_best(line, mem),
+        6 => standing::canonical_count(line, mem),
+        7 => standing::live_count(line, mem),
+        _ => later(name),
     }
 }
 
@@ -45,17 +58,18 @@ fn question(name: &[u8], line: &[u8], mem: &[u64]) {
         2 => holding::generation(line, mem),
         3 => holding::version(line, mem),
         4 => holding::amount(line, mem),
-        _ => later(name),
+        _ => tree_question(name, line, mem),
     }
 }
 
 fn call(name: &[u8], line: &[u8], mem: &mut [u64]) {
-    match words::place(name, b"reload load put remove answer") {
+    match words::place(name, b"reload load put remove answer sync") {
         0 => holding::reload(line, mem),
         1 => holding::load(line, mem),
         2 => holding::put(line, mem),
         3 => holding::remove(line, mem),
         4 => holding::answer(line, mem),
+        5 => standing::sync(line, mem),
         _ => question(name, line, mem),
     }
 }
