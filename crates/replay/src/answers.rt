@@ -4,7 +4,6 @@ use crate::lists;
 use crate::write;
 use amount::Amount;
 use amount::Reading;
-use block::Block;
 use block::Counted;
 use block::Done;
 use block::Listed;
@@ -109,17 +108,12 @@ pub fn worth(x: Worth) {
     }
 }
 
-// HASH before the work.
-fn tip_hash(b: Block) {
-    let h = b.header;
-    write::hash(h.hash);
-}
-
 pub fn tip(x: Tip) {
     match x {
         Tip::Best(b, w, ok) => {
+            let h = b.header;
             write::out(b"0 ");
-            tip_hash(b);
+            write::hash(h.hash);
             write::out(b" ");
             work(w, ok);
         }

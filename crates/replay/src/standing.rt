@@ -1,8 +1,8 @@
-// Sync and the questions about the tree (docs/HISTORY.md, "Calls and their answers"; document 01, "Standing in the tree"), as `holding`
-// has the calls on the holdings.
+// Sync and leaves (docs/HISTORY.md, "Calls and their answers"; document 01, "Standing in the tree"). The other questions about the tree
+// are in `questions`: they write nothing, and leaves writes the lent list.
 use crate::answers;
+use crate::lists;
 use crate::words;
-use crate::words::Hashed;
 
 pub fn sync(line: &[u8], mem: &mut [u64]) {
     if !words::has(line, 1) {
@@ -11,62 +11,11 @@ pub fn sync(line: &[u8], mem: &mut [u64]) {
     answers::done(tree::sync(mem));
 }
 
-// ---- of a hash ----
-
-pub fn node(line: &[u8], mem: &[u64]) {
-    let Hashed::Hash(h) = words::one_hash(line) else {
-        return answers::no_call();
-    };
-    answers::shown(asking::node(mem, h));
-}
-
-pub fn parent(line: &[u8], mem: &[u64]) {
-    let Hashed::Hash(h) = words::one_hash(line) else {
-        return answers::no_call();
-    };
-    answers::shown(asking::parent(mem, h));
-}
-
-pub fn linked(line: &[u8], mem: &[u64]) {
-    let Hashed::Hash(h) = words::one_hash(line) else {
-        return answers::no_call();
-    };
-    answers::worth(asking::linked(mem, h));
-}
-
-pub fn canonical_linked(line: &[u8], mem: &[u64]) {
-    let Hashed::Hash(h) = words::one_hash(line) else {
-        return answers::no_call();
-    };
-    answers::worth(asking::canonical_linked(mem, h));
-}
-
-// ---- of the whole tree ----
-
-pub fn best(line: &[u8], mem: &[u64]) {
+pub fn leaves(line: &[u8], mem: &mut [u64], list: &mut [u8], lent: u64) {
     if !words::has(line, 1) {
         return answers::no_call();
     }
-    answers::tip(asking::best(mem));
-}
-
-pub fn canonical_best(line: &[u8], mem: &[u64]) {
-    if !words::has(line, 1) {
-        return answers::no_call();
-    }
-    answers::tip(asking::canonical_best(mem));
-}
-
-pub fn canonical_count(line: &[u8], mem: &[u64]) {
-    if !words::has(line, 1) {
-        return answers::no_call();
-    }
-    answers::counted(asking::canonical_count(mem));
-}
-
-pub fn live_count(line: &[u8], mem: &[u64]) {
-    if !words::has(line, 1) {
-        return answers::no_call();
-    }
-    answers::counted(asking::live_count(mem));
+    let n = lists::lent_bytes(list.len(), lent);
+    let given = leaves::leaves(mem, &mut list[0..n]);
+    answers::listed(given, list);
 }
