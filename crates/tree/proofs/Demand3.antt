@@ -1,14 +1,16 @@
 -- The third demand, of the code. From a fresh start, after any accepted or refused loads, puts, removals, answers, reloads and syncs, if the last sync
 -- covers the present, every question about the tree is answered as 01's rules give it for the records and answers now held, worked out from
--- nothing. A reader sees here: start (`begun`), any calls (`called`), a question (`AskedTree`), its answer.
+-- nothing. A reader sees here: start (`begun`), any calls (`done`, `reloaded`, `synced`), a question (`AskedTree`), its answer.
 use mathlib.Core.Path.{_≡_, refl, sym, ap, _∙_, subst}
 use mathlib.Core.Bool.{Bool, true, false}
 use mathlib.Core.List.{List}
 use mathlib.Core.Option.{some}
+use Prim.{tt}
 use Prim.Native.Nat.{ℕ}
 use Rattle.model.specs.Standing.{winner, Value, Values, fromNothing}
-use Rattle.model.specs.Questions.{TreeQuestion, Reply, leaves, treeReply}
-use Rattle.model.specs.Numbers.{State}
+use Rattle.amount.specs.Choose.{_if_else_}
+use Rattle.model.specs.Questions.{TreeQuestion, node, parentQ, linkedQ, canonicalLinkedQ, bestQ, canonicalBestQ, canonicalCountQ, liveCountQ, leavesQ, Reply, leaves, treeReply}
+use Rattle.model.specs.Numbers.{State, Call, reload, sync, askTree}
 use Rattle.model.specs.Runs as runs
 use Rattle.model.specs.Runs.{Run, start, call, New, newNext, newOf, Timely}
 use Rattle.model.proofs.Demand3 as model
@@ -20,8 +22,8 @@ use Rattle.state.specs.Handing.{Hands}
 use Rattle.asking.specs.Whole.{Whole, WholeAt}
 use Rattle.asking.specs.AskedTree.{AskedTree, Leaves}
 use Rattle.tree.specs.Calls.{Keeps}
-use Rattle.tree.specs.Lived.{Lived, begun, called, listed, given, InTime}
-use Rattle.tree.proofs.KeepLaws.{start-whole}
+use Rattle.tree.specs.Lived.{Lived, begun, done, reloaded, synced, listed, given, InTime}
+use Rattle.tree.proofs.KeepLaws.{start-whole, reload-keeps, done-keeps}
 
 -- a list of leaves leaves the memory whole, and what it stands for
 module _ (m m′ : List ℕ) {list list′ : List ℕ} {x : Listed} (k : Leaves m m′ list list′ x) (w : Whole m) where
@@ -40,7 +42,9 @@ module _ (m m′ : List ℕ) {list list′ : List ℕ} {x : Listed} (k : Leaves 
 -- every memory of such a history is whole
 pub whole : {m : List ℕ} → Lived m → Whole m
 whole (begun n j g v {m} {m′} s) = start-whole n j g v m m′ s
-whole (called c l k) = k .right (whole l) .whole
+whole (done c {m} {m′} {r} l k) = done-keeps c m m′ r k .right (whole l) .whole
+whole (reloaded g v {m} {m′} {r} l k) = reload-keeps g v m m′ r k .right (whole l) .whole
+whole (synced l k) = k .right (whole l) .whole
 whole (listed {m} {m′} l k) = at-room m m′ k (whole l)
 
 -- the state that it stands for, with the calls that led to it
@@ -49,14 +53,50 @@ record Past (s : State) (new : New) (T : Type 0) : Type 0 where
   new-is : newOf run ≡ new
   in-time : T → runs.InTime run
 
+after : (c : Call) (m m′ : List ℕ) (r : ℕ) (new : New) (T : Type 0) → Keeps c m m′ r → Whole m → Past (view m) new T → Past (view m′) (newNext c (view m) new) (Timely c (view m) new × T)
+unfolding newOf runs.InTime
+after c m m′ r new T k w p =
+    subst (λ (x : State). Past x (newNext c (view m) new) (Timely c (view m) new × T)) (sym (k .right w .state))
+    (record { run = call c (p .run); new-is = ap (newNext c (view m)) (p .new-is); in-time = λ t. (subst (λ (x : New). Timely c (view m) x) (sym (p .new-is)) (t .0), p .in-time (t .1)) })
+
+-- of a reload and a sync nothing is asked
+freely : (s : State) (new : New) (T : Type 0) → Past s new (Unit {0} × T) → Past s new T
+freely s new T p = record { run = p .run; new-is = p .new-is; in-time = λ t. p .in-time (tt, t) }
+
 past : {m : List ℕ} (l : Lived m) → Past (view m) (given l) (InTime l)
 unfolding given InTime newOf runs.InTime
 past (begun n j g v s) = subst (λ (x : State). Past x (λ y. false) (Unit {0})) (sym (s .state refl)) (record { run = start n j g v; new-is = refl; in-time = λ t. t })
-past (called c {m} l k) =
-    let p = past l in
-    subst (λ (x : State). Past x (newNext c (view m) (given l)) (Timely c (view m) (given l) × InTime l)) (sym (k .right (whole l) .state))
-    (record { run = call c (p .run); new-is = ap (newNext c (view m)) (p .new-is); in-time = λ t. (subst (λ (x : New). Timely c (view m) x) (sym (p .new-is)) (t .0), p .in-time (t .1)) })
+past (done c {m} {m′} {r} l k) = after c m m′ r (given l) (InTime l) (done-keeps c m m′ r k) (whole l) (past l)
+past (reloaded g v {m} {m′} {r} l k) = freely (view m′) _ (InTime l) (after (reload g v) m m′ r (given l) (InTime l) (reload-keeps g v m m′ r k) (whole l) (past l))
+past (synced {m} {m′} {r} l k) = freely (view m′) _ (InTime l) (after sync m m′ r (given l) (InTime l) k (whole l) (past l))
 past (listed {m} {m′} l k) = subst (λ (x : State). Past x (given l) (InTime l)) (sym (same-view m m′ k (whole l))) (past l)
+
+-- a question that is answered with no list
+abbrev pub NoList : TreeQuestion → Type 0
+NoList (node x) = Unit {0}
+NoList (parentQ x) = Unit {0}
+NoList (linkedQ x) = Unit {0}
+NoList (canonicalLinkedQ x) = Unit {0}
+NoList bestQ = Unit {0}
+NoList canonicalBestQ = Unit {0}
+NoList canonicalCountQ = Unit {0}
+NoList liveCountQ = Unit {0}
+NoList (leavesQ lent) = ⊥
+
+not-refused : (q : TreeQuestion) (s : State) → s .fresh ≡ true → NoList q → askTree q s ≡ 0
+not-refused (node x) s f u = rw f
+not-refused (parentQ x) s f u = rw f
+not-refused (linkedQ x) s f u = rw f
+not-refused (canonicalLinkedQ x) s f u = rw f
+not-refused bestQ s f u = rw f
+not-refused canonicalBestQ s f u = rw f
+not-refused canonicalCountQ s f u = rw f
+not-refused liveCountQ s f u = rw f
+not-refused (leavesQ lent) s f u = absurd u
+
+-- a memory that a sync covers answers
+pub answered : {m : List ℕ} → Lived m → view m .fresh ≡ true → (q : TreeQuestion) (r : ℕ) (y : Reply) → AskedTree q m r y → NoList q → r ≡ 0
+answered {m} l covered q r y a u = a .number-is (whole l) ∙ not-refused q (view m) covered u
 
 module _ {m : List ℕ} (l : Lived m) (premise : InTime l) (covered : view m .fresh ≡ true) where
   from-nothing : (q : TreeQuestion) → treeReply (view m .holdings) (view m .values) q ≡ treeReply (view m .holdings) (fromNothing (view m .holdings)) q
