@@ -1,5 +1,5 @@
-// The questions about the tree (document 01, "Numbers given back"): node, parent, linked, canonical linked, best, canonical best, leaves, canonical
-// count, live count. Each answers from what the last sync kept, or 12 if a sync does not cover the present.
+// The questions about the tree (document 01, "Numbers given back"): node, parent, linked, canonical linked, best, canonical best, canonical count, live
+// count; leaves are in a crate of their own. Each answers from what the last sync kept, or 12 if a sync does not cover the present.
 ghost use mathlib.Core.Path.{_≡_};
 ghost use Rattle.asking.specs.AskedTree.{AskedTree};
 ghost use Rattle.asking.specs.Within.{Answers, Begins, Bests, Tips, Worths};

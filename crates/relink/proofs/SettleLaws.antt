@@ -8,10 +8,12 @@ use native.Mathlib.Omega.{arith}
 use Rattle.model.specs.Holding.{Holdings}
 use Rattle.model.specs.Standing.{Values}
 use Rattle.model.specs.Relink.{Pending, worked, after, goesBefore, next, settled}
-use Rattle.model.proofs.Tools.{byOption, pick-some, pick-none}
+use Rattle.model.proofs.Tools.{byOption, no-both, pick-some, pick-none}
 use Rattle.model.proofs.Settled.{settled-none, settled-some}
 use Rattle.model.proofs.Budget.{budget, budget-falls, budget-start}
-use Rattle.memory.specs.Layout.{Laid}
+use Rattle.memory.specs.Words.{word}
+use Rattle.memory.specs.Layout.{row, Laid}
+use Rattle.contest.proofs.KeyLaws.{enters-no}
 use Rattle.state.specs.View.{valuesOf, viewAt}
 use Rattle.state.specs.Sound.{SoundAt, placed}
 use Rattle.state.specs.TreeOnly.{TreeOnly}
@@ -88,6 +90,17 @@ module _ (m₀ m : List ℕ) (n left p : ℕ) (g : Settling m₀ m n left) (is :
   settling-done n≤p = record {
     only = g .only;
     right = λ s t₀ pend₀ q. let x = g .going s t₀ pend₀ q in settled-at m₀ m n left pend₀ x (next-is none (placed-out n p n≤p) s (x .pend) (x .pends));
+  }
+
+  -- a first place that is not marked: no memory that calls left has one
+  pub settling-unmarked : p < n → word m (row p + 59) ≡ 0 → Settles m₀ m n
+  settling-unmarked p<n z = record {
+    only = g .only;
+    right = λ s t₀ pend₀ q.
+        let x = g .going s t₀ pend₀ q in
+        let e : next (viewAt m₀ n .holdings) (x .pend) ≡ some p = next-is (some p) (placed-in n p p<n) s (x .pend) (x .pends) in
+        let now : x .pend p ≡ true = pick-some (x .pend) (λ a b. goesBefore (viewAt m₀ n .holdings .cells a) (viewAt m₀ n .holdings .cells b)) (viewAt m₀ n .holdings .room) p e .0 in
+        no-both true refl (sym now ∙ sym (x .pends .members p p<n) ∙ enters-no m 2 p z);
   }
 
 pub settling-spent : (m₀ m : List ℕ) (n left : ℕ) → Settling m₀ m n left → left ≤ 0 → Settles m₀ m n

@@ -64,7 +64,8 @@ pub fn turn(mem: &mut [u64], n: usize, p: usize)
 
 // ---- all turns ----
 
-// Turns, until no place is pending. (The count is more than a memory that calls left can take, and ends the loop on any other.)
+// Turns, until no place is pending. (The count is more than a memory that calls left can take, and ends the loop on any other; a first place that is not
+// pending, which only such a memory has, ends it at once: it would come up again at every turn.)
 pub fn settle(mem: &mut [u64], n: usize)
     requires { ⌜ Laid (now mem) n ⌝ }
     ensures { λ _. ⌜ Settles (now (mem .entry)) (now (mem .exit)) n ⌝ }
@@ -73,6 +74,9 @@ pub fn settle(mem: &mut [u64], n: usize)
     while 0 < left {
         let p = pending::first(mem, n);
         if n <= p {
+            return;
+        }
+        if mem[64 + 68 * p + 59] == 0 {
             return;
         }
         turn(mem, n, p);

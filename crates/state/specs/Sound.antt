@@ -1,5 +1,5 @@
 -- A memory that our calls left: the structures of the holdings agree with what the rows say. One field a concern. What a sync keeps of the tree
--- has a record of its own, in crate tree; `Apart` (Moves.antt) says that a step leaves that alone.
+-- has a record of its own (crate relink, Treed.antt); `Apart` (Moves.antt) says that a step leaves that alone.
 use mathlib.Core.Bool.{Bool, true, false}
 use mathlib.Core.List.{List}
 use mathlib.Core.Option.{Option, none, some}
