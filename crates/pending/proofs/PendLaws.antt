@@ -114,7 +114,7 @@ pub record Struck (m m′ : List ℕ) (n p b : ℕ) : Type 0 where
   pub mark : word m′ (row p + 59) ≡ b
   pub tree : WF n (contest.view m n 2) → WF n (contest.view m′ n 2)
 
-struck : (m m₁ m₂ : List ℕ) (n p b : ℕ) → p < n → ((i : ℕ) → (i ≡ row p + 3 → ⊥) → (i ≡ row p + 59 → ⊥) → word m₁ i ≡ word m i)
+pub struck : (m m₁ m₂ : List ℕ) (n p b : ℕ) → p < n → ((i : ℕ) → (i ≡ row p + 3 → ⊥) → (i ≡ row p + 59 → ⊥) → word m₁ i ≡ word m i)
     → length m₁ ≡ length m → word m₁ (row p + 59) ≡ b → Updated n 2 p m₁ m₂ → Struck m m₂ n p b
 struck m m₁ m₂ n p b p<n other long mark u = record {
   long = u .long ∙ long;
@@ -145,11 +145,11 @@ module _ (m m′ : List ℕ) (n p b : ℕ) (laid : Laid m n) (p<n : p < n) (s : 
   member-else : (q : ℕ) → q < n → (q ≡ p → ⊥) → enters m′ 2 q ≡ enters m 2 q
   member-else q h ne = enters-kept m m′ 2 q (s .only (row q + 59) (omega arith) (λ z. ne (omega arith)) (omega arith))
 
-or-true : (a : Bool) → (a || true) ≡ true
+pub or-true : (a : Bool) → (a || true) ≡ true
 or-true true = refl
 or-true false = refl
 
-and-true : (a : Bool) → (a && true) ≡ a
+pub and-true : (a : Bool) → (a && true) ≡ a
 and-true true = refl
 and-true false = refl
 

@@ -1,0 +1,2 @@
+-- What the steps of handing out leaves promise.
+pub mod Queue
