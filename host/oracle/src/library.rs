@@ -1,11 +1,12 @@
 //! The library against the original and the reading of document 01: a history
-//! on all three, answer by answer, refusals too.
+//! on all three, answer by answer, refusals too. Calls that the library lacks
+//! are passed over; none of them changes anything.
 use crate::generate::generate;
 use crate::judge::{Answered, Judge};
 use crate::shrink::shrink;
 use cadraspes::Replay;
 use history::{lines, read_line, Answer, Call, Line};
-use std::collections::BTreeMap;
+use std::collections::{BTreeMap, BTreeSet};
 
 /// Answers calls; none for a call that it lacks.
 pub type Player = Box<dyn FnMut(&Call) -> Option<Answer>>;
@@ -22,21 +23,14 @@ pub struct Given {
     pub answer: Option<Answer>,
 }
 
-/// What a player answers to a history, up to the first call that it lacks and
-/// that would have changed something.
+/// What a player answers to a history.
 pub fn given(history: &[u8], mut player: Player) -> Vec<Given> {
     let mut all = Vec::new();
     for (text, line) in lines(history).zip(1..) {
         let answer = match read_line(text) {
             Line::Passed => continue,
             Line::NoCall(why) => Some(Answer::NoCall(why)),
-            Line::Call(call) => {
-                let answer = player(&call);
-                if answer.is_none() && call == Call::Sync {
-                    break;
-                }
-                answer
-            }
+            Line::Call(call) => player(&call),
         };
         all.push(Given { line, call: String::from_utf8_lossy(text).into_owned(), answer });
     }
@@ -58,21 +52,55 @@ pub fn differs(given: &Given, expected: &str) -> Option<String> {
     (!same).then(|| format!("# line {line}: {call}\n#   the library: {ours}\n#   expected:    {theirs}\n"))
 }
 
+/// Questions about all of the tree and all of the holdings.
+const WHOLE: [&str; 8] = ["best", "cbest", "ccount", "live", "leaves", "count", "generation", "version"];
+/// Questions about one hash.
+const EACH: [&str; 5] = ["node", "parent", "linked", "clinked", "effective"];
+
+/// The history with every question after each sync, for every hash named so
+/// far; and for each of its lines the line of the history it stands for.
+fn swept(history: &[u8]) -> (Vec<u8>, Vec<usize>) {
+    let (mut text, mut from, mut known) = (Vec::new(), Vec::new(), BTreeSet::new());
+    for (line, number) in lines(history).zip(1..) {
+        let mut add = |words: &[u8]| {
+            text.extend([words, b"\n"].concat());
+            from.push(number);
+        };
+        add(line);
+        match read_line(line) {
+            Line::Call(Call::Load(_, block) | Call::Put(_, block)) => known.extend([block.hash, block.prev]),
+            Line::Call(Call::Sync) => {
+                WHOLE.iter().for_each(|question| add(question.as_bytes()));
+                let each = |hash| EACH.map(|question| format!("{question} {hash}"));
+                known.iter().flat_map(each).for_each(|question| add(question.as_bytes()));
+            }
+            _ => (),
+        }
+    }
+    (text, from)
+}
+
 /// What a player answered to a history.
 pub struct Against {
     pub answers: Vec<Answer>,
+    pub syncs: u64,
     pub difference: Option<String>,
 }
 
-/// Runs a history on all three: the original and the reading must agree, and
-/// the player with them.
+/// Runs a history on all three, with every question after each sync: the
+/// original and the reading must agree, and the player with them.
 pub fn against(history: &[u8], player: Player) -> Against {
-    let (judge, answered) = Judge::run(history, false);
-    let given = given(history, player);
-    let between = judge.differences.first().map(|one| format!("# line {}: the original is not as read\n", one.line));
+    let (swept, from) = swept(history);
+    let (judge, answered) = Judge::run(&swept, false);
+    let mut given = given(&swept, player);
+    given.iter_mut().for_each(|one| one.line = from[one.line - 1]);
+    let between =
+        judge.differences.first().map(|one| format!("# line {}: the original is not as read\n", from[one.line - 1]));
     let differ = |(one, given): (&Answered, &Given)| differs(given, &one.answer.to_string());
+    assert_eq!(answered.len(), given.len(), "one for each call");
     let difference = between.or_else(|| answered.iter().zip(&given).find_map(differ));
-    Against { answers: given.into_iter().filter_map(|one| one.answer).collect(), difference }
+    let syncs = given.iter().filter(|one| one.call == "sync").count() as u64;
+    Against { syncs, answers: given.into_iter().filter_map(|one| one.answer).collect(), difference }
 }
 
 /// What a comparison of many histories came to.
@@ -80,6 +108,7 @@ pub fn against(history: &[u8], player: Player) -> Against {
 pub struct Compared {
     pub histories: u64,
     pub calls: u64,
+    pub syncs: u64,
     /// How often each refusal was met, by its number.
     pub refused: BTreeMap<u8, u64>,
     /// A history on which the library differs, made small, with what differs.
@@ -91,7 +120,10 @@ impl Compared {
         let found = if self.difference.is_some() { "a difference" } else { "no difference" };
         let refused: Vec<String> = self.refused.iter().map(|(number, times)| format!("{number}: {times}")).collect();
         let (histories, calls, refused) = (self.histories, self.calls, refused.join(", "));
-        format!("{histories} histories, {calls} calls answered by the library ({refused} refused): {found}")
+        let syncs = self.syncs;
+        format!(
+            "{histories} histories, {syncs} syncs, {calls} calls answered by the library (refused {refused}): {found}"
+        )
     }
 }
 
@@ -107,9 +139,10 @@ pub fn compare(
     for at in 0..count {
         let (seed, profile) = (seed + at / profiles.len() as u64, profiles[(at % profiles.len() as u64) as usize]);
         let history = generate(seed, profile).expect("a profile");
-        let Against { answers, difference } = against(history.as_bytes(), player());
+        let Against { answers, syncs, difference } = against(history.as_bytes(), player());
         compared.histories += 1;
         compared.calls += answers.len() as u64;
+        compared.syncs += syncs;
         for answer in answers {
             if let Answer::Refused(number) = answer {
                 *compared.refused.entry(number).or_default() += 1;
