@@ -2,10 +2,10 @@
 //! on all three, answer by answer, refusals too. Calls that the library lacks
 //! are passed over; none of them changes anything.
 use crate::generate::generate;
-use crate::judge::{Answered, Judge};
+use crate::judge::Judge;
 use crate::shrink::shrink;
 use cadraspes::Replay;
-use history::{lines, read_line, Answer, Call, Line};
+use history::{lines, read_line, Answer, Call, Hash, Line};
 use std::collections::{BTreeMap, BTreeSet};
 
 /// Answers calls; none for a call that it lacks.
@@ -52,55 +52,64 @@ pub fn differs(given: &Given, expected: &str) -> Option<String> {
     (!same).then(|| format!("# line {line}: {call}\n#   the library: {ours}\n#   expected:    {theirs}\n"))
 }
 
-/// Questions about all of the tree and all of the holdings.
-const WHOLE: [&str; 8] = ["best", "cbest", "ccount", "live", "leaves", "count", "generation", "version"];
-/// Questions about one hash.
-const EACH: [&str; 5] = ["node", "parent", "linked", "clinked", "effective"];
+/// A history on all three, up to a first difference.
+struct Against {
+    judge: Judge,
+    player: Player,
+    /// Every hash that was put or named as a previous hash.
+    known: BTreeSet<Hash>,
+    answers: Vec<Answer>,
+    syncs: u64,
+    difference: Option<String>,
+}
 
-/// The history with every question after each sync, for every hash named so
-/// far; and for each of its lines the line of the history it stands for.
-fn swept(history: &[u8]) -> (Vec<u8>, Vec<usize>) {
-    let (mut text, mut from, mut known) = (Vec::new(), Vec::new(), BTreeSet::new());
-    for (line, number) in lines(history).zip(1..) {
-        let mut add = |words: &[u8]| {
-            text.extend([words, b"\n"].concat());
-            from.push(number);
-        };
-        add(line);
-        match read_line(line) {
-            Line::Call(Call::Load(_, block) | Call::Put(_, block)) => known.extend([block.hash, block.prev]),
-            Line::Call(Call::Sync) => {
-                WHOLE.iter().for_each(|question| add(question.as_bytes()));
-                let each = |hash| EACH.map(|question| format!("{question} {hash}"));
-                known.iter().flat_map(each).for_each(|question| add(question.as_bytes()));
+impl Against {
+    /// With every question after each sync.
+    fn run(history: &[u8], player: Player) -> Against {
+        let (judge, known, answers) = (Judge::of_original(), BTreeSet::new(), Vec::new());
+        let mut against = Against { judge, player, known, answers, syncs: 0, difference: None };
+        for (text, line) in lines(history).zip(1..) {
+            let Line::Call(call) = read_line(text) else { continue };
+            against.judge.line = line;
+            against.ask(&call);
+            match call {
+                Call::Load(_, block) | Call::Put(_, block) => against.known.extend([block.hash, block.prev]),
+                Call::Sync => against.sweep(),
+                _ => (),
             }
-            _ => (),
+            if against.difference.is_some() {
+                break;
+            }
+        }
+        against
+    }
+
+    /// All questions, for every hash named so far.
+    fn sweep(&mut self) {
+        self.syncs += 1;
+        let whole = [Call::Best, Call::CanonicalBest, Call::CanonicalCount, Call::LiveCount, Call::Leaves];
+        let holdings = [Call::Count, Call::Generation, Call::Version];
+        whole.iter().chain(&holdings).for_each(|call| self.ask(call));
+        for hash in self.known.clone() {
+            let each = [Call::Node, Call::Parent, Call::Linked, Call::CanonicalLinked, Call::Effective];
+            each.iter().for_each(|question| self.ask(&question(hash)));
         }
     }
-    (text, from)
-}
 
-/// What a player answered to a history.
-pub struct Against {
-    pub answers: Vec<Answer>,
-    pub syncs: u64,
-    pub difference: Option<String>,
-}
-
-/// Runs a history on all three, with every question after each sync: the
-/// original and the reading must agree, and the player with them.
-pub fn against(history: &[u8], player: Player) -> Against {
-    let (swept, from) = swept(history);
-    let (judge, answered) = Judge::run(&swept, false);
-    let mut given = given(&swept, player);
-    given.iter_mut().for_each(|one| one.line = from[one.line - 1]);
-    let between =
-        judge.differences.first().map(|one| format!("# line {}: the original is not as read\n", from[one.line - 1]));
-    let differ = |(one, given): (&Answered, &Given)| differs(given, &one.answer.to_string());
-    assert_eq!(answered.len(), given.len(), "one for each call");
-    let difference = between.or_else(|| answered.iter().zip(&given).find_map(differ));
-    let syncs = given.iter().filter(|one| one.call == "sync").count() as u64;
-    Against { syncs, answers: given.into_iter().filter_map(|one| one.answer).collect(), difference }
+    /// The original and the reading must agree, and the player with them.
+    fn ask(&mut self, call: &Call) {
+        let Some(answer) = (self.player)(call) else { return };
+        let expected = self.judge.call(call);
+        let same = answer == expected || matches!((&answer, &expected), (Answer::NoCall(_), Answer::NoCall(_)));
+        self.answers.push(answer.clone());
+        let line = self.judge.line;
+        if self.difference.is_none() && !self.judge.differences.is_empty() {
+            self.difference = Some(format!("# line {line}: {call}: the original is not as read\n"));
+        } else if self.difference.is_none() && !same {
+            let given = Given { line, call: call.to_string(), answer: Some(answer) };
+            self.difference = differs(&given, &expected.to_string());
+        }
+    }
 }
 
 /// What a comparison of many histories came to.
@@ -139,7 +148,7 @@ pub fn compare(
     for at in 0..count {
         let (seed, profile) = (seed + at / profiles.len() as u64, profiles[(at % profiles.len() as u64) as usize]);
         let history = generate(seed, profile).expect("a profile");
-        let Against { answers, syncs, difference } = against(history.as_bytes(), player());
+        let Against { answers, syncs, difference, .. } = Against::run(history.as_bytes(), player());
         compared.histories += 1;
         compared.calls += answers.len() as u64;
         compared.syncs += syncs;
@@ -161,7 +170,7 @@ pub fn compare(
 
 /// A history on which a player differs, made small, with what differs.
 fn describe(history: &[u8], from: &str, player: fn() -> Player) -> String {
-    let difference = |history: &[u8]| against(history, player()).difference;
+    let difference = |history: &[u8]| Against::run(history, player()).difference;
     let small = shrink(history, &|history| difference(history).is_some()).unwrap_or(history.to_vec());
     format!("# from: {from}\n{}{}", difference(&small).unwrap_or_default(), String::from_utf8_lossy(&small))
 }
