@@ -138,6 +138,28 @@ fn memory_of_random_words() {
     assert!(numbers[0] > 10_000, "most calls got past the head: {numbers:?}");
 }
 
+/// A sync of more places ends too: it takes n * n + n turns at most.
+#[test]
+fn a_sync_of_any_memory_ends() {
+    if !with_library() {
+        return;
+    }
+    let mut rng = Rng(9);
+    for turn in 0..60 {
+        let (hashes, journal) = (20 + rng.below(100), 1 + rng.below(50));
+        let bits = [64, 7, 6, 3, 2, 1][turn % 6];
+        let random = |_| rng.next() >> (64 - bits);
+        let mut words: Vec<u64> = (0..64 + 81 * hashes + 8 * journal).map(random).collect();
+        (words[0], words[1]) = (hashes, journal);
+        let mut memory = Memory(Words::new(&words));
+        for _ in 0..3 {
+            assert_eq!(memory.call(boundary::sync), 0);
+            memory.leaves(32 * 200);
+            memory.tip(boundary::best);
+        }
+    }
+}
+
 /// Each word of a sound memory in turn becomes another.
 #[test]
 fn one_word_is_another() {
