@@ -3,3 +3,5 @@ mod CallLaws
 mod RecordLaws
 mod ToldLaws
 mod ShownLaws
+mod ToldTreeLaws
+mod TreeLaws

@@ -62,7 +62,7 @@ abbrev There : Option model.Block → Type 0
 There none = ⊥
 There (some y) = Unit {0}
 
-some-not-none : {y : model.Block} → some y ≡ none → ⊥
+pub some-not-none : {y : model.Block} → some y ≡ none → ⊥
 some-not-none e = subst (λ (o : Option model.Block). There o) e tt
 
 -- the answer inside, and the words written for it

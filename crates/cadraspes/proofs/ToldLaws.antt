@@ -66,13 +66,13 @@ tells-count {m} = counts effectiveCountQ m (λ s. refl)
 
 -- three words are written
 module _ (m m₁ m₂ m₃ : List ℕ) (k x y : ℕ) (three : length m ≡ 3) (s₁ : Stored m m₁ 0 k) (s₂ : Stored m₁ m₂ 1 x) (s₃ : Stored m₂ m₃ 2 y) where
-  first : word m₃ 0 ≡ k
+  pub first : word m₃ 0 ≡ k
   first = stored-other s₃ 0 (omega arith) ∙ stored-other s₂ 0 (omega arith) ∙ stored-same s₁ (omega arith)
 
-  second : word m₃ 1 ≡ x
+  pub second : word m₃ 1 ≡ x
   second = let l₁ = stored-long s₁ in stored-other s₃ 1 (omega arith) ∙ stored-same s₂ (omega arith)
 
-  third : word m₃ 2 ≡ y
+  pub third : word m₃ 2 ≡ y
   third = let l₁ = stored-long s₁ in let l₂ = stored-long s₂ in stored-same s₃ (omega arith)
 
   pub tells-readable : {a : Reading} {v : Amount} → k ≡ 1 → a ≡ Readable v → fromWords x y ≡ value v → AmountTold (meant a) m₃

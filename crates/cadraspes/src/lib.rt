@@ -4,11 +4,14 @@ ghost use mathlib.Core.Path.{_≡_};
 ghost use Rattle.amount.specs.Amounts.{reading};
 ghost use Rattle.cadraspes.specs.Lent.{blockMeant};
 ghost use Rattle.cadraspes.specs.Told.{AmountTold, Counts, Lists, Shows};
+ghost use Rattle.cadraspes.specs.ToldTree.{TreeCounts, TreeLists, TreeShows, TreeTips, TreeWorths};
 ghost use Rattle.clearing.specs.Calls.{Reloads, Starts};
 ghost use Rattle.hash.specs.Digits.{bytesNumber};
 ghost use Rattle.model.specs.Numbers as numbers;
-ghost use Rattle.model.specs.Questions.{effectiveCountQ, effectiveQ, generationQ, versionQ};
+ghost use Rattle.model.specs.Questions as questions;
+ghost use Rattle.model.specs.Questions.{bestQ, canonicalBestQ, canonicalCountQ, canonicalLinkedQ, effectiveCountQ, effectiveQ, generationQ, linkedQ, liveCountQ, parentQ, versionQ};
 ghost use Rattle.state.specs.Moves as moves;
+ghost use Rattle.tree.specs.Calls.{Keeps};
 
 mod records;
 mod telling;
@@ -87,7 +90,15 @@ pub extern "C" fn cadraspes_answer(mem: &mut [u64], hash: &[u8; 32], answer: u64
     block::numbers::done_number(holdings::answer(mem, h, answer))
 }
 
-// ---- questions ----
+// Never refused on a memory that a start laid out.
+#[no_mangle]
+pub extern "C" fn cadraspes_sync(mem: &mut [u64]) -> u64
+    ensures { λ r. ⌜ Keeps numbers.sync (now (mem .entry)) (now (mem .exit)) r ⌝ }
+{
+    block::numbers::done_number(tree::sync(mem))
+}
+
+// ---- questions about the holdings ----
 
 #[no_mangle]
 pub extern "C" fn cadraspes_generation(mem: &[u64], out: &mut u64) -> u64
@@ -133,6 +144,89 @@ pub extern "C" fn cadraspes_changes(
     ensures { λ r. ⌜ Lists generation version (now (mem .entry)) (now (list .entry)) (now (list .exit)) (now (out .entry)) (now (out .exit)) r ⌝ }
 {
     telling::tell_listed(holdings::changes(mem, generation, version, list), out)
+}
+
+// ---- questions about the tree ----
+
+// The live block of a hash, as the effective record is shown.
+#[no_mangle]
+pub extern "C" fn cadraspes_node(mem: &[u64], hash: &[u8; 32], out: &mut [u64; 29]) -> u64
+    ensures { λ r. ⌜ TreeShows (questions.node (bytesNumber (now (hash .entry)))) (now (mem .entry)) (now (out .entry)) (now (out .exit)) r ⌝ }
+{
+    let h = hash::from_bytes(hash);
+    telling::tell_shown(asking::node(mem, h), out)
+}
+
+// The parent of a live block, shown alike.
+#[no_mangle]
+pub extern "C" fn cadraspes_parent(mem: &[u64], hash: &[u8; 32], out: &mut [u64; 29]) -> u64
+    ensures { λ r. ⌜ TreeShows (parentQ (bytesNumber (now (hash .entry)))) (now (mem .entry)) (now (out .entry)) (now (out .exit)) r ⌝ }
+{
+    let h = hash::from_bytes(hash);
+    telling::tell_shown(asking::parent(mem, h), out)
+}
+
+// A linked value: 0 and two zeros for none, else 1, or 2 where proofs are ok, and the two words of work, the lower first.
+#[no_mangle]
+pub extern "C" fn cadraspes_linked(mem: &[u64], hash: &[u8; 32], out: &mut [u64; 3]) -> u64
+    ensures { λ r. ⌜ TreeWorths (linkedQ (bytesNumber (now (hash .entry)))) (now (mem .entry)) (now (out .entry)) (now (out .exit)) r ⌝ }
+{
+    let h = hash::from_bytes(hash);
+    telling::tell_worth(asking::linked(mem, h), out)
+}
+
+#[no_mangle]
+pub extern "C" fn cadraspes_canonical_linked(
+    mem: &[u64],
+    hash: &[u8; 32],
+    out: &mut [u64; 3],
+) -> u64
+    ensures { λ r. ⌜ TreeWorths (canonicalLinkedQ (bytesNumber (now (hash .entry)))) (now (mem .entry)) (now (out .entry)) (now (out .exit)) r ⌝ }
+{
+    let h = hash::from_bytes(hash);
+    telling::tell_worth(asking::canonical_linked(mem, h), out)
+}
+
+// The best block, shown as the effective record is, and its linked value.
+#[no_mangle]
+pub extern "C" fn cadraspes_best(mem: &[u64], out: &mut [u64; 29], value: &mut [u64; 3]) -> u64
+    ensures { λ r. ⌜ TreeTips bestQ (now (mem .entry)) (now (out .entry)) (now (out .exit)) (now (value .entry)) (now (value .exit)) r ⌝ }
+{
+    telling::tell_tip(asking::best(mem), out, value)
+}
+
+#[no_mangle]
+pub extern "C" fn cadraspes_canonical_best(
+    mem: &[u64],
+    out: &mut [u64; 29],
+    value: &mut [u64; 3],
+) -> u64
+    ensures { λ r. ⌜ TreeTips canonicalBestQ (now (mem .entry)) (now (out .entry)) (now (out .exit)) (now (value .entry)) (now (value .exit)) r ⌝ }
+{
+    telling::tell_tip(asking::canonical_best(mem), out, value)
+}
+
+#[no_mangle]
+pub extern "C" fn cadraspes_canonical_count(mem: &[u64], out: &mut u64) -> u64
+    ensures { λ r. ⌜ TreeCounts canonicalCountQ (now (mem .entry)) (now (out .entry)) (now (out .exit)) r ⌝ }
+{
+    telling::tell_count(asking::canonical_count(mem), out)
+}
+
+#[no_mangle]
+pub extern "C" fn cadraspes_live_count(mem: &[u64], out: &mut u64) -> u64
+    ensures { λ r. ⌜ TreeCounts liveCountQ (now (mem .entry)) (now (out .entry)) (now (out .exit)) r ⌝ }
+{
+    telling::tell_count(asking::live_count(mem), out)
+}
+
+// The leaves by rising hash, 32 bytes each: 1 and how many. (The list is put in order with the help of words of the memory that nothing else
+// reads, so the memory is lent to be written.)
+#[no_mangle]
+pub extern "C" fn cadraspes_leaves(mem: &mut [u64], list: &mut [u8], out: &mut [u64; 2]) -> u64
+    ensures { λ r. ⌜ TreeLists (now (mem .entry)) (now (mem .exit)) (now (list .entry)) (now (list .exit)) (now (out .entry)) (now (out .exit)) r ⌝ }
+{
+    telling::tell_listed(leaves::leaves(mem, list), out)
 }
 
 // ---- amounts ----

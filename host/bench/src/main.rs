@@ -1,6 +1,9 @@
-//! The time of one call of the library, by how many hashes are held: the table
-//! of docs/SPEED.md. Each cell is the median of several rounds; a round makes
-//! some calls on a copy of one memory.
+//! The time of one call of the library, by how many hashes are held, and that of
+//! the tree's calls beside the original's: the tables of docs/SPEED.md. Each
+//! cell is the median of several rounds; a round makes some calls on a copy of
+//! one memory.
+mod beside;
+
 use cadraspes::boundary::{self, Record};
 use cadraspes::room;
 use std::hint::black_box;
@@ -88,7 +91,7 @@ impl Which {
 /// Nanoseconds a call: the median of the rounds.
 fn time(memory: &[u64], which: Which, blocks: &[Block], call: Call) -> f64 {
     let before = if let Which::Eight = which { &blocks[..8] } else { &[] };
-    let mut rounds: Vec<f64> = (0..ROUNDS)
+    let rounds: Vec<f64> = (0..ROUNDS)
         .map(|_| {
             let mut memory = memory.to_vec();
             before.iter().for_each(|block| assert_eq!(call(&mut memory, block), 0));
@@ -99,8 +102,12 @@ fn time(memory: &[u64], which: Which, blocks: &[Block], call: Call) -> f64 {
             time
         })
         .collect();
-    rounds.sort_by(f64::total_cmp);
-    rounds[ROUNDS / 2]
+    median(rounds)
+}
+
+fn median(mut times: Vec<f64>) -> f64 {
+    times.sort_by(f64::total_cmp);
+    times[times.len() / 2]
 }
 
 type Call = fn(&mut [u64], &Block) -> u64;
@@ -153,4 +160,6 @@ fn main() {
     let words = ROOMS.map(|hashes| room(hashes, JOURNAL));
     println!("| memory, words | {} |", words.map(|words| words.to_string()).join(" | "));
     println!("| memory, bytes | {} |", words.map(|words| (8 * words).to_string()).join(" | "));
+    println!();
+    beside::table();
 }

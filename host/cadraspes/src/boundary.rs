@@ -11,6 +11,10 @@ pub type CopyWords = [u64; 12];
 /// sixteen words of its header and the twelve of its copy.
 pub type ShownWords = [u64; 29];
 
+/// What a question for a linked value writes: 0 for none, 1, or 2 where proofs
+/// are ok; then the two words of work, the lower first.
+pub type ValueWords = [u64; 3];
+
 /// True when the library was there to link.
 pub const fn linked() -> bool {
     cfg!(linked)
@@ -56,6 +60,16 @@ functions! {
     fn cadraspes_changes(
         mem: *const u64, len: usize, generation: u64, version: u64, list: *mut u8, list_len: usize, out: &mut [u64; 2]
     );
+    fn cadraspes_sync(mem: *mut u64, len: usize);
+    fn cadraspes_node(mem: *const u64, len: usize, hash: &[u8; 32], out: &mut ShownWords);
+    fn cadraspes_parent(mem: *const u64, len: usize, hash: &[u8; 32], out: &mut ShownWords);
+    fn cadraspes_linked(mem: *const u64, len: usize, hash: &[u8; 32], out: &mut ValueWords);
+    fn cadraspes_canonical_linked(mem: *const u64, len: usize, hash: &[u8; 32], out: &mut ValueWords);
+    fn cadraspes_best(mem: *const u64, len: usize, out: &mut ShownWords, value: &mut ValueWords);
+    fn cadraspes_canonical_best(mem: *const u64, len: usize, out: &mut ShownWords, value: &mut ValueWords);
+    fn cadraspes_canonical_count(mem: *const u64, len: usize, out: &mut u64);
+    fn cadraspes_live_count(mem: *const u64, len: usize, out: &mut u64);
+    fn cadraspes_leaves(mem: *mut u64, len: usize, list: *mut u8, list_len: usize, out: &mut [u64; 2]);
     fn cadraspes_amount(text: *const u8, len: usize, out: &mut [u64; 3]);
 }
 
@@ -130,6 +144,49 @@ pub fn version(mem: &[u64], out: &mut u64) -> u64 {
 pub fn changes(mem: &[u64], generation: u64, version: u64, list: &mut [u8], out: &mut [u64; 2]) -> u64 {
     let (places, bytes) = (list.as_mut_ptr(), list.len());
     unsafe { cadraspes_changes(mem.as_ptr(), mem.len(), generation, version, places, bytes, out) }
+}
+
+pub fn sync(mem: &mut [u64]) -> u64 {
+    unsafe { cadraspes_sync(mem.as_mut_ptr(), mem.len()) }
+}
+
+pub fn node(mem: &[u64], hash: &[u8; 32], out: &mut ShownWords) -> u64 {
+    unsafe { cadraspes_node(mem.as_ptr(), mem.len(), hash, out) }
+}
+
+pub fn parent(mem: &[u64], hash: &[u8; 32], out: &mut ShownWords) -> u64 {
+    unsafe { cadraspes_parent(mem.as_ptr(), mem.len(), hash, out) }
+}
+
+pub fn linked_value(mem: &[u64], hash: &[u8; 32], out: &mut ValueWords) -> u64 {
+    unsafe { cadraspes_linked(mem.as_ptr(), mem.len(), hash, out) }
+}
+
+pub fn canonical_linked(mem: &[u64], hash: &[u8; 32], out: &mut ValueWords) -> u64 {
+    unsafe { cadraspes_canonical_linked(mem.as_ptr(), mem.len(), hash, out) }
+}
+
+pub fn best(mem: &[u64], out: &mut ShownWords, value: &mut ValueWords) -> u64 {
+    unsafe { cadraspes_best(mem.as_ptr(), mem.len(), out, value) }
+}
+
+pub fn canonical_best(mem: &[u64], out: &mut ShownWords, value: &mut ValueWords) -> u64 {
+    unsafe { cadraspes_canonical_best(mem.as_ptr(), mem.len(), out, value) }
+}
+
+pub fn canonical_count(mem: &[u64], out: &mut u64) -> u64 {
+    unsafe { cadraspes_canonical_count(mem.as_ptr(), mem.len(), out) }
+}
+
+pub fn live_count(mem: &[u64], out: &mut u64) -> u64 {
+    unsafe { cadraspes_live_count(mem.as_ptr(), mem.len(), out) }
+}
+
+/// The list has 32 bytes a place. Writes 1 and the count. Words of the memory
+/// that nothing else reads help to put the list in order.
+pub fn leaves(mem: &mut [u64], list: &mut [u8], out: &mut [u64; 2]) -> u64 {
+    let (places, bytes) = (list.as_mut_ptr(), list.len());
+    unsafe { cadraspes_leaves(mem.as_mut_ptr(), mem.len(), places, bytes, out) }
 }
 
 /// Writes 1 and the two words of the value, the lower first, or three zeros

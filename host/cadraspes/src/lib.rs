@@ -13,6 +13,11 @@
 //! assert_eq!((tree.count(), tree.version()), (1, 1));
 //! assert_eq!(tree.effective(hash).map(|block| block.actual), Some(Some(5)));
 //! assert_eq!(tree.put(3, &block), Err(Refusal::Kind));
+//!
+//! assert_eq!(tree.best(), Err(Refusal::Stale));
+//! tree.sync();
+//! let (tip, work) = tree.best()?.expect("one block is linked");
+//! assert_eq!((tip.hash, work.value, work.ok), (hash, 5, true));
 //! # Ok::<(), Refusal>(())
 //! ```
 //!
@@ -26,7 +31,7 @@ mod tree;
 pub mod words;
 
 pub use boundary::{linked, NOT_LINKED};
-pub use history::{Amount, Block, Hash, Marks, Reason};
+pub use history::{Amount, Block, Hash, Marks, Reason, Work};
 pub use refusal::Refusal;
 pub use replay::Replay;
 pub use tree::{room, Tree};

@@ -1,7 +1,7 @@
 //! A tree that owns its memory.
-use crate::boundary::{self, Record};
-use crate::words::{copy_words, reading_of, shown_of};
-use crate::{Amount, Block, Hash, Refusal};
+use crate::boundary::{self, Record, ShownWords, ValueWords};
+use crate::words::{copy_words, reading_of, shown_of, value_of};
+use crate::{Amount, Block, Hash, Refusal, Work};
 
 /// How many words of memory some rooms need (docs/MEMORY.md).
 pub fn room(hashes: u64, journal: u64) -> u64 {
@@ -97,9 +97,7 @@ impl Tree {
         let mut bytes: Vec<u8> = list.iter().flat_map(|hash| hash.0).collect();
         let mut out = [0; 2];
         done(boundary::changes(&self.memory, generation, version, &mut bytes, &mut out))?;
-        for (place, hash) in list.iter_mut().zip(bytes.chunks_exact(32)) {
-            place.0.copy_from_slice(hash);
-        }
+        fill(list, &bytes);
         Ok((out[0] == 1).then_some(out[1] as usize))
     }
 
@@ -114,6 +112,110 @@ impl Tree {
         Some(list)
     }
 
+    /// Brings linked and canonical linked values, both best blocks, leaves and
+    /// counts up to the records and answers now held; closes loading, and frees
+    /// the room of hashes that no store holds.
+    pub fn sync(&mut self) {
+        never(boundary::sync(&mut self.memory));
+    }
+
+    // The questions about the tree. Each is refused with 12 STALE where no sync
+    // came since the last start, reload, load, put or effective removal.
+
+    /// The block of a hash, if it is live.
+    pub fn node(&self, hash: Hash) -> Result<Option<Block<Amount>>, Refusal> {
+        self.block(boundary::node, hash)
+    }
+
+    /// The parent of a live block: the live block that its previous hash names,
+    /// if its index is one less.
+    pub fn parent(&self, hash: Hash) -> Result<Option<Block<Amount>>, Refusal> {
+        self.block(boundary::parent, hash)
+    }
+
+    fn block(
+        &self,
+        ask: fn(&[u64], &[u8; 32], &mut ShownWords) -> u64,
+        hash: Hash,
+    ) -> Result<Option<Block<Amount>>, Refusal> {
+        let mut out = [0; 29];
+        done(ask(&self.memory, &hash.0, &mut out))?;
+        Ok(shown_of(&out))
+    }
+
+    /// The work of a linked block from index 0 on, and whether the proofs of
+    /// its walk are ok; none where it is not linked.
+    pub fn linked(&self, hash: Hash) -> Result<Option<Work>, Refusal> {
+        self.value(boundary::linked_value, hash)
+    }
+
+    /// The same over canonical blocks only, whatever the answers.
+    pub fn canonical_linked(&self, hash: Hash) -> Result<Option<Work>, Refusal> {
+        self.value(boundary::canonical_linked, hash)
+    }
+
+    fn value(&self, ask: fn(&[u64], &[u8; 32], &mut ValueWords) -> u64, hash: Hash) -> Result<Option<Work>, Refusal> {
+        let mut out = [0; 3];
+        done(ask(&self.memory, &hash.0, &mut out))?;
+        Ok(value_of(&out))
+    }
+
+    /// The best linked block: greatest work, then greater index, then lower
+    /// hash. With its work.
+    pub fn best(&self) -> Result<Option<(Block<Amount>, Work)>, Refusal> {
+        self.tip(boundary::best)
+    }
+
+    /// The best canonical linked block.
+    pub fn canonical_best(&self) -> Result<Option<(Block<Amount>, Work)>, Refusal> {
+        self.tip(boundary::canonical_best)
+    }
+
+    fn tip(
+        &self,
+        ask: fn(&[u64], &mut ShownWords, &mut ValueWords) -> u64,
+    ) -> Result<Option<(Block<Amount>, Work)>, Refusal> {
+        let (mut out, mut value) = ([0; 29], [0; 3]);
+        done(ask(&self.memory, &mut out, &mut value))?;
+        Ok(shown_of(&out).zip(value_of(&value)))
+    }
+
+    /// How many blocks are live and have the canonical flag.
+    pub fn canonical_count(&self) -> Result<u64, Refusal> {
+        self.counted(boundary::canonical_count)
+    }
+
+    /// How many blocks are live.
+    pub fn live_count(&self) -> Result<u64, Refusal> {
+        self.counted(boundary::live_count)
+    }
+
+    fn counted(&self, ask: fn(&[u64], &mut u64) -> u64) -> Result<u64, Refusal> {
+        let mut out = 0;
+        done(ask(&self.memory, &mut out))?;
+        Ok(out)
+    }
+
+    /// The hashes of the leaves, linked blocks that are no linked block's
+    /// parent, go into the first places of a list, by rising hash; gives how
+    /// many. (What the tree stands for does not change; it is lent to be written
+    /// because words of its memory help to put the list in order.)
+    pub fn leaves_into(&mut self, list: &mut [Hash]) -> Result<usize, Refusal> {
+        let mut bytes: Vec<u8> = list.iter().flat_map(|hash| hash.0).collect();
+        let mut out = [0; 2];
+        done(boundary::leaves(&mut self.memory, &mut bytes, &mut out))?;
+        fill(list, &bytes);
+        Ok(out[1] as usize)
+    }
+
+    /// The hashes of the leaves, by rising hash.
+    pub fn leaves(&mut self) -> Result<Vec<Hash>, Refusal> {
+        let mut list = vec![Hash([0; 32]); self.live_count()? as usize];
+        let count = self.leaves_into(&mut list)?;
+        list.truncate(count);
+        Ok(list)
+    }
+
     /// The value of an amount text; none where it is unreadable.
     pub fn amount(text: &str) -> Amount {
         let mut out = [0; 3];
@@ -124,6 +226,13 @@ impl Tree {
     /// The words of its memory.
     pub fn memory(&self) -> &[u64] {
         &self.memory
+    }
+}
+
+/// Places of a list out of 32 bytes each.
+fn fill(list: &mut [Hash], bytes: &[u8]) {
+    for (place, hash) in list.iter_mut().zip(bytes.chunks_exact(32)) {
+        place.0.copy_from_slice(hash);
     }
 }
 

@@ -1,7 +1,7 @@
-//! Records as words (docs/MEMORY.md): the twelve of a copy, and the
-//! twenty-nine that a question for a block writes.
-use crate::boundary::{CopyWords, ShownWords};
-use crate::{Amount, Block, Hash, Marks, Reason};
+//! Records as words (docs/MEMORY.md): the twelve of a copy, the twenty-nine
+//! that a question for a block writes, and the three of a linked value.
+use crate::boundary::{CopyWords, ShownWords, ValueWords};
+use crate::{Amount, Block, Hash, Marks, Reason, Work};
 
 /// Four words of a hash, the most significant first.
 fn hash_words(hash: Hash) -> [u64; 4] {
@@ -25,6 +25,11 @@ fn amount_of(words: &[u64]) -> u128 {
 /// An amount in three words: kind 1 for a readable one.
 pub fn reading_of(kind: u64, words: &[u64]) -> Amount {
     (kind == 1).then(|| amount_of(words))
+}
+
+/// What the words of a linked value mean.
+pub fn value_of(words: &ValueWords) -> Option<Work> {
+    (words[0] > 0).then(|| Work { value: amount_of(&words[1..]), ok: words[0] == 2 })
 }
 
 /// The kind of a time, and its word: 1 from 0 on, 2 below.

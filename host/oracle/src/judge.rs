@@ -59,6 +59,11 @@ pub struct Judge {
 }
 
 impl Judge {
+    /// Of the original.
+    pub fn of_original() -> Judge {
+        Judge::new(start_original, false)
+    }
+
     pub fn new(start: Start, sweep: bool) -> Judge {
         Judge {
             watched: Watched::default(),

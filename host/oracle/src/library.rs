@@ -1,11 +1,12 @@
 //! The library against the original and the reading of document 01: a history
-//! on all three, answer by answer, refusals too.
+//! on all three, answer by answer, refusals too. Calls that the library lacks
+//! are passed over; none of them changes anything.
 use crate::generate::generate;
-use crate::judge::{Answered, Judge};
+use crate::judge::Judge;
 use crate::shrink::shrink;
 use cadraspes::Replay;
-use history::{lines, read_line, Answer, Call, Line};
-use std::collections::BTreeMap;
+use history::{lines, read_line, Answer, Call, Hash, Line};
+use std::collections::{BTreeMap, BTreeSet};
 
 /// Answers calls; none for a call that it lacks.
 pub type Player = Box<dyn FnMut(&Call) -> Option<Answer>>;
@@ -22,21 +23,14 @@ pub struct Given {
     pub answer: Option<Answer>,
 }
 
-/// What a player answers to a history, up to the first call that it lacks and
-/// that would have changed something.
+/// What a player answers to a history.
 pub fn given(history: &[u8], mut player: Player) -> Vec<Given> {
     let mut all = Vec::new();
     for (text, line) in lines(history).zip(1..) {
         let answer = match read_line(text) {
             Line::Passed => continue,
             Line::NoCall(why) => Some(Answer::NoCall(why)),
-            Line::Call(call) => {
-                let answer = player(&call);
-                if answer.is_none() && call == Call::Sync {
-                    break;
-                }
-                answer
-            }
+            Line::Call(call) => player(&call),
         };
         all.push(Given { line, call: String::from_utf8_lossy(text).into_owned(), answer });
     }
@@ -58,21 +52,64 @@ pub fn differs(given: &Given, expected: &str) -> Option<String> {
     (!same).then(|| format!("# line {line}: {call}\n#   the library: {ours}\n#   expected:    {theirs}\n"))
 }
 
-/// What a player answered to a history.
-pub struct Against {
-    pub answers: Vec<Answer>,
-    pub difference: Option<String>,
+/// A history on all three, up to a first difference.
+struct Against {
+    judge: Judge,
+    player: Player,
+    /// Every hash that was put or named as a previous hash.
+    known: BTreeSet<Hash>,
+    answers: Vec<Answer>,
+    syncs: u64,
+    difference: Option<String>,
 }
 
-/// Runs a history on all three: the original and the reading must agree, and
-/// the player with them.
-pub fn against(history: &[u8], player: Player) -> Against {
-    let (judge, answered) = Judge::run(history, false);
-    let given = given(history, player);
-    let between = judge.differences.first().map(|one| format!("# line {}: the original is not as read\n", one.line));
-    let differ = |(one, given): (&Answered, &Given)| differs(given, &one.answer.to_string());
-    let difference = between.or_else(|| answered.iter().zip(&given).find_map(differ));
-    Against { answers: given.into_iter().filter_map(|one| one.answer).collect(), difference }
+impl Against {
+    /// With every question after each sync.
+    fn run(history: &[u8], player: Player) -> Against {
+        let (judge, known, answers) = (Judge::of_original(), BTreeSet::new(), Vec::new());
+        let mut against = Against { judge, player, known, answers, syncs: 0, difference: None };
+        for (text, line) in lines(history).zip(1..) {
+            let Line::Call(call) = read_line(text) else { continue };
+            against.judge.line = line;
+            against.ask(&call);
+            match call {
+                Call::Load(_, block) | Call::Put(_, block) => against.known.extend([block.hash, block.prev]),
+                Call::Sync => against.sweep(),
+                _ => (),
+            }
+            if against.difference.is_some() {
+                break;
+            }
+        }
+        against
+    }
+
+    /// All questions, for every hash named so far.
+    fn sweep(&mut self) {
+        self.syncs += 1;
+        let whole = [Call::Best, Call::CanonicalBest, Call::CanonicalCount, Call::LiveCount, Call::Leaves];
+        let holdings = [Call::Count, Call::Generation, Call::Version];
+        whole.iter().chain(&holdings).for_each(|call| self.ask(call));
+        for hash in self.known.clone() {
+            let each = [Call::Node, Call::Parent, Call::Linked, Call::CanonicalLinked, Call::Effective];
+            each.iter().for_each(|question| self.ask(&question(hash)));
+        }
+    }
+
+    /// The original and the reading must agree, and the player with them.
+    fn ask(&mut self, call: &Call) {
+        let Some(answer) = (self.player)(call) else { return };
+        let expected = self.judge.call(call);
+        let same = answer == expected || matches!((&answer, &expected), (Answer::NoCall(_), Answer::NoCall(_)));
+        self.answers.push(answer.clone());
+        let line = self.judge.line;
+        if self.difference.is_none() && !self.judge.differences.is_empty() {
+            self.difference = Some(format!("# line {line}: {call}: the original is not as read\n"));
+        } else if self.difference.is_none() && !same {
+            let given = Given { line, call: call.to_string(), answer: Some(answer) };
+            self.difference = differs(&given, &expected.to_string());
+        }
+    }
 }
 
 /// What a comparison of many histories came to.
@@ -80,6 +117,7 @@ pub fn against(history: &[u8], player: Player) -> Against {
 pub struct Compared {
     pub histories: u64,
     pub calls: u64,
+    pub syncs: u64,
     /// How often each refusal was met, by its number.
     pub refused: BTreeMap<u8, u64>,
     /// A history on which the library differs, made small, with what differs.
@@ -91,7 +129,10 @@ impl Compared {
         let found = if self.difference.is_some() { "a difference" } else { "no difference" };
         let refused: Vec<String> = self.refused.iter().map(|(number, times)| format!("{number}: {times}")).collect();
         let (histories, calls, refused) = (self.histories, self.calls, refused.join(", "));
-        format!("{histories} histories, {calls} calls answered by the library ({refused} refused): {found}")
+        let syncs = self.syncs;
+        format!(
+            "{histories} histories, {syncs} syncs, {calls} calls answered by the library (refused {refused}): {found}"
+        )
     }
 }
 
@@ -107,9 +148,10 @@ pub fn compare(
     for at in 0..count {
         let (seed, profile) = (seed + at / profiles.len() as u64, profiles[(at % profiles.len() as u64) as usize]);
         let history = generate(seed, profile).expect("a profile");
-        let Against { answers, difference } = against(history.as_bytes(), player());
+        let Against { answers, syncs, difference, .. } = Against::run(history.as_bytes(), player());
         compared.histories += 1;
         compared.calls += answers.len() as u64;
+        compared.syncs += syncs;
         for answer in answers {
             if let Answer::Refused(number) = answer {
                 *compared.refused.entry(number).or_default() += 1;
@@ -128,7 +170,7 @@ pub fn compare(
 
 /// A history on which a player differs, made small, with what differs.
 fn describe(history: &[u8], from: &str, player: fn() -> Player) -> String {
-    let difference = |history: &[u8]| against(history, player()).difference;
+    let difference = |history: &[u8]| Against::run(history, player()).difference;
     let small = shrink(history, &|history| difference(history).is_some()).unwrap_or(history.to_vec());
     format!("# from: {from}\n{}{}", difference(&small).unwrap_or_default(), String::from_utf8_lossy(&small))
 }

@@ -79,8 +79,7 @@ fn run(sweep: bool) -> bool {
     print_all(&answers) && tell(&judge, &answered)
 }
 
-/// The library's answers, up to the first call that it lacks and that changes
-/// something.
+/// The library's answers, `?` for calls that it lacks.
 fn run_library() -> bool {
     if !cadraspes::linked() {
         eprintln!("{}", cadraspes::NOT_LINKED);
@@ -171,7 +170,7 @@ fn print_compared(options: &[&str]) -> bool {
 
 /// The library against the original and the reading.
 fn print_library(options: &[&str]) -> bool {
-    let (histories, seed, mut profiles) = compare_options(options);
+    let (histories, seed, profiles) = compare_options(options);
     if !cadraspes::linked() {
         eprintln!("{}", cadraspes::NOT_LINKED);
         return false;
@@ -179,9 +178,7 @@ fn print_library(options: &[&str]) -> bool {
     if !at_hand() {
         eprintln!("{NOT_AT_HAND}");
     }
-    if profiles.is_empty() {
-        profiles.push(HOLDINGS);
-    }
+    let profiles = if profiles.is_empty() { [&PROFILES[..], &[HOLDINGS]].concat() } else { profiles };
     let progress = |so_far: &library::Compared| eprintln!("{}", so_far.summary());
     let compared = library::compare(histories, seed, &profiles, library::library, &progress);
     println!("{}", compared.summary());

@@ -21,6 +21,8 @@ mod convert;
 #[cfg(at_hand)]
 mod datastore;
 mod journal_room;
+#[cfg(at_hand)]
+mod timed;
 
 #[cfg(at_hand)]
 pub use datastore::DatastoreManager;
@@ -40,6 +42,30 @@ pub fn start(generation: u64, journal_room: u64) -> Option<Box<dyn history::Engi
 
 #[cfg(not(at_hand))]
 pub fn start(_: u64, _: u64) -> Option<Box<dyn history::Engine>> {
+    None
+}
+
+/// The original's own calls on blocks that were made its own beforehand.
+pub trait Timed {
+    /// What was held is let go, so that this is not measured with what follows.
+    fn forget(&mut self);
+    /// The first so many blocks are loaded; nothing is synced.
+    fn start(&mut self, count: usize);
+    fn put(&mut self, at: usize);
+    fn sync(&mut self);
+    /// The work of the best block.
+    fn best(&self) -> u128;
+    fn best_hash(&self) -> Option<history::Hash>;
+}
+
+/// None where the sources are not at hand.
+#[cfg(at_hand)]
+pub fn timed(blocks: &[history::Block<String>]) -> Option<Box<dyn Timed>> {
+    Some(Box::new(timed::Run::new(blocks)))
+}
+
+#[cfg(not(at_hand))]
+pub fn timed(_: &[history::Block<String>]) -> Option<Box<dyn Timed>> {
     None
 }
 

@@ -29,24 +29,60 @@ fn every_call(memory: &Memory, rng: &mut Rng) -> Vec<u64> {
     for bytes in [0, 33, 32 * 9] {
         numbers.push(memory.changes(generation.words[0], back, bytes).0.number);
     }
-    let calls: [Calling; 7] = [
+    let calls: [Calling; 17] = [
         &|memory, hash| memory.load(0, &block(hash)),
         &|memory, hash| memory.put(1, &block(hash)),
         &|memory, hash| memory.remove(0, hash),
         &|memory, hash| memory.call(|mem| boundary::answer(mem, &hash.0, 2)),
         &|memory, hash| memory.effective(hash).number,
         &|memory, _| memory.changes(generation.words[0], back, 32 * 9).0.number,
+        &|memory, hash| memory.block(boundary::node, hash).number,
+        &|memory, hash| memory.block(boundary::parent, hash).number,
+        &|memory, hash| memory.value(boundary::linked_value, hash).number,
+        &|memory, hash| memory.value(boundary::canonical_linked, hash).number,
+        &|memory, _| memory.tip(boundary::best).number,
+        &|memory, _| memory.tip(boundary::canonical_best).number,
+        &|memory, _| memory.number(boundary::canonical_count).number,
+        &|memory, _| memory.number(boundary::live_count).number,
+        &|memory, _| memory.leaves(32 * 9).0.number,
+        &|memory, _| memory.call(boundary::sync),
         &|memory, _| memory.call(|mem| boundary::reload(mem, u64::MAX, 3)),
     ];
     let mut together = memory.clone();
     for hash in names {
-        for call in &calls[..6] {
+        for call in &calls[..16] {
             numbers.push(call(&mut together, hash));
             numbers.push(call(&mut memory.clone(), hash));
         }
     }
-    numbers.push(calls[6](&mut together, names[0]));
+    numbers.push(calls[16](&mut together, names[0]));
     numbers
+}
+
+/// What the questions about the tree answer once a sync covers the present,
+/// though no call left the memory.
+fn synced(memory: &Memory, rng: &mut Rng) -> Vec<u64> {
+    let mut memory = memory.clone();
+    let number = memory.call(boundary::sync);
+    let mut numbers = every_call(&memory, rng);
+    numbers.push(number);
+    numbers
+}
+
+/// A memory of six hashes and five entries, all linked but one, that a sync
+/// covers.
+fn linked() -> Memory {
+    let mut library = Library::default();
+    let mut call = |line: &str| assert_eq!(library.call(&Call::read(line).unwrap()).to_string(), "0", "{line}");
+    call("start 6 5 1 0");
+    for block in ["8 0 0 0", "1 1 0 8", "2 1 0 8", "3 2 0 1", "4 3 0 3", "5 3 0 7"] {
+        call(&format!("load 2 {block} \"1\" \"1\" c - - -"));
+    }
+    call("sync");
+    call("put 1 2 1 0 8 \"1\" \"1\" - - - -");
+    call("answer 4 2");
+    call("sync");
+    library.memory.unwrap()
 }
 
 /// A memory of six hashes and five entries, full, after some touches.
@@ -71,7 +107,9 @@ fn memory_that_is_empty_or_all_ones_or_all_one_number() {
     let mut rng = Rng(1);
     for words in [0, 1, 2, 63, 64, 65, 152, 153, 1000] {
         for fill in [0, 1, 2, 5, u64::MAX, 1 << 63, 64] {
-            every_call(&Memory(Words::new(&vec![fill; words])), &mut rng);
+            let memory = Memory(Words::new(&vec![fill; words]));
+            every_call(&memory, &mut rng);
+            synced(&memory, &mut rng);
         }
     }
 }
@@ -92,11 +130,34 @@ fn memory_of_random_words() {
         if turn % 5 > 0 {
             (words[0], words[1]) = (hashes, journal);
         }
-        for number in every_call(&Memory(Words::new(&words)), &mut rng) {
+        let memory = Memory(Words::new(&words));
+        for number in every_call(&memory, &mut rng).into_iter().chain(synced(&memory, &mut rng)) {
             numbers[number as usize] += 1;
         }
     }
     assert!(numbers[0] > 10_000, "most calls got past the head: {numbers:?}");
+}
+
+/// A sync of more places ends too: it takes n * n + n turns at most.
+#[test]
+fn a_sync_of_any_memory_ends() {
+    if !with_library() {
+        return;
+    }
+    let mut rng = Rng(9);
+    for turn in 0..60 {
+        let (hashes, journal) = (20 + rng.below(100), 1 + rng.below(50));
+        let bits = [64, 7, 6, 3, 2, 1][turn % 6];
+        let random = |_| rng.next() >> (64 - bits);
+        let mut words: Vec<u64> = (0..64 + 81 * hashes + 8 * journal).map(random).collect();
+        (words[0], words[1]) = (hashes, journal);
+        let mut memory = Memory(Words::new(&words));
+        for _ in 0..3 {
+            assert_eq!(memory.call(boundary::sync), 0);
+            memory.leaves(32 * 200);
+            memory.tip(boundary::best);
+        }
+    }
 }
 
 /// Each word of a sound memory in turn becomes another.
@@ -105,15 +166,17 @@ fn one_word_is_another() {
     if !with_library() {
         return;
     }
-    let (sound, mut rng) = (sound(), Rng(3));
-    for at in 0..sound.0.shown().len() {
-        let word = sound.0.shown()[at];
-        let bits: [u64; 6] = std::array::from_fn(|_| word ^ 1 << rng.below(64));
-        let small = [0, 1, 2, 5, 6, 7, u64::MAX, word.wrapping_add(1), word.wrapping_sub(1), rng.next()];
-        for other in bits.into_iter().chain(small) {
-            let mut flipped = sound.clone();
-            flipped.0.inner()[at] = other;
-            every_call(&flipped, &mut rng);
+    let mut rng = Rng(3);
+    for sound in [sound(), linked()] {
+        for at in 0..sound.0.shown().len() {
+            let word = sound.0.shown()[at];
+            let bits: [u64; 6] = std::array::from_fn(|_| word ^ 1 << rng.below(64));
+            let small = [0, 1, 2, 5, 6, 7, u64::MAX, word.wrapping_add(1), word.wrapping_sub(1), rng.next()];
+            for other in bits.into_iter().chain(small) {
+                let mut flipped = sound.clone();
+                flipped.0.inner()[at] = other;
+                every_call(&flipped, &mut rng);
+            }
         }
     }
 }
@@ -124,17 +187,18 @@ fn many_words_are_others_again_and_again() {
     if !with_library() {
         return;
     }
-    let (sound, mut rng) = (sound(), Rng(4));
-    let length = sound.0.shown().len() as u64;
-    for _ in 0..1500 {
-        let mut memory = sound.clone();
+    let (sounds, mut rng) = ([sound(), linked()], Rng(4));
+    let length = sounds[0].0.shown().len() as u64;
+    for turn in 0..2000 {
+        let mut memory = sounds[turn % 2].clone();
         for _ in 0..6 {
             for _ in 0..1 + rng.below(4) {
                 let (at, other) = (2 + rng.below(length - 2), rng.next() >> rng.pick(&[0, 1, 32, 61, 62]));
                 memory.0.inner()[at as usize] = other;
             }
             let hash = name(rng.below(9));
-            match rng.below(4) {
+            match rng.below(6) {
+                4 | 5 => memory.call(boundary::sync),
                 0 => memory.put(rng.below(4), &block(hash)),
                 1 => memory.remove(rng.below(3), hash),
                 2 => memory.call(|mem| boundary::answer(mem, &hash.0, rng.below(4))),

@@ -1,8 +1,8 @@
 //! The library with guards on both sides of everything that it is lent. After
 //! each call the guards are looked at, and after a refusal that nothing that
 //! was lent has changed.
-use cadraspes::boundary::{self, Record};
-use cadraspes::words::{copy_words, reading_of, shown_of};
+use cadraspes::boundary::{self, Record, ShownWords, ValueWords};
+use cadraspes::words::{copy_words, reading_of, shown_of, value_of};
 use cadraspes::{room, Hash};
 use history::{Answer, Block, Call};
 
@@ -111,9 +111,35 @@ impl Memory {
     }
 
     pub fn effective(&self, hash: Hash) -> Asked {
-        let asked = self.ask::<29>(|mem, out| boundary::effective(mem, &hash.0, out));
-        let none = asked.number == 0 && asked.words[0] == 0;
-        assert!(!none || asked.words[1..] == [OUT; 28], "none was shown, and words were written");
+        self.block(boundary::effective, hash)
+    }
+
+    pub fn block(&self, ask: AskBlock, hash: Hash) -> Asked {
+        let asked = self.ask::<29>(|mem, out| ask(mem, &hash.0, out));
+        assert!(none_stays(&asked), "none was shown, and words were written");
+        asked
+    }
+
+    pub fn value(&self, ask: AskValue, hash: Hash) -> Asked {
+        let asked = self.ask::<3>(|mem, out| ask(mem, &hash.0, out));
+        assert!(asked.number > 0 || value_is_told(&asked.words), "{:?}", asked.words);
+        asked
+    }
+
+    /// The words of the block, then those of the value.
+    pub fn tip(&self, ask: AskTip) -> Asked {
+        let mut value = Words::new(&[OUT; 3]);
+        let lent = value.inner().try_into().expect("three words");
+        let mut asked = self.ask::<29>(|mem, out| ask(mem, out, lent));
+        value.check();
+        assert!(none_stays(&asked), "none was shown, and words were written");
+        let words = value.shown();
+        if asked.number > 0 {
+            assert_eq!(words, [OUT; 3], "a question refused with {} wrote an answer", asked.number);
+        } else {
+            assert!(value_is_told(words) && (words[0] > 0) == (asked.words[0] == 1), "{words:?}");
+        }
+        asked.words.extend(words);
         asked
     }
 
@@ -130,6 +156,32 @@ impl Memory {
         assert!(asked.number == 0 || untouched, "a question refused with {} wrote a list", asked.number);
         (asked, list.shown().to_vec())
     }
+
+    /// The same of the leaves, a question that is lent the memory to write.
+    pub fn leaves(&mut self, bytes: usize) -> (Asked, Vec<u8>) {
+        let (mut list, mut out) = (Bytes::new(&vec![PLACE.0[0]; bytes]), Words::new(&[OUT; 2]));
+        let lent = out.inner().try_into().expect("two words");
+        let number = self.call(|mem| boundary::leaves(mem, list.inner(), lent));
+        list.check();
+        out.check();
+        let untouched = list.shown().iter().all(|byte| *byte == PLACE.0[0]) && out.shown() == [OUT; 2];
+        assert!(number == 0 || untouched, "a question refused with {number} wrote an answer");
+        (Asked { number, words: out.shown().to_vec() }, list.shown().to_vec())
+    }
+}
+
+pub type AskBlock = fn(&[u64], &[u8; 32], &mut ShownWords) -> u64;
+pub type AskValue = fn(&[u64], &[u8; 32], &mut ValueWords) -> u64;
+pub type AskTip = fn(&[u64], &mut ShownWords, &mut ValueWords) -> u64;
+
+/// Where there is no block to show, one word is written.
+fn none_stays(asked: &Asked) -> bool {
+    asked.number > 0 || asked.words[0] == 1 || (asked.words[0] == 0 && asked.words[1..] == [OUT; 28])
+}
+
+/// Three zeros, or a kind of 1 or 2 before any two words.
+fn value_is_told(words: &[u64]) -> bool {
+    words == [0; 3] || words[0] == 1 || words[0] == 2
 }
 
 /// With the texts, the copy's words and the hashes in guards of their own,
@@ -173,12 +225,20 @@ impl Library {
             Call::Put(store, block) => done(memory.put((*store).into(), block)),
             Call::Remove(store, hash) => done(memory.remove((*store).into(), *hash)),
             Call::Answer(hash, value) => done(memory.call(|mem| boundary::answer(mem, &hash.0, *value))),
-            Call::Effective(hash) => answer(memory.effective(*hash), |words| {
-                shown_of(words.try_into().expect("29 words")).map_or(Answer::None, Answer::Block)
-            }),
-            Call::Count => answer(memory.number(boundary::effective_count), |words| Answer::Number(words[0])),
-            Call::Generation => answer(memory.number(boundary::generation), |words| Answer::Number(words[0])),
-            Call::Version => answer(memory.number(boundary::version), |words| Answer::Number(words[0])),
+            Call::Sync => done(memory.call(boundary::sync)),
+            Call::Effective(hash) => shown(memory.effective(*hash)),
+            Call::Node(hash) => shown(memory.block(boundary::node, *hash)),
+            Call::Parent(hash) => shown(memory.block(boundary::parent, *hash)),
+            Call::Linked(hash) => worth(memory.value(boundary::linked_value, *hash)),
+            Call::CanonicalLinked(hash) => worth(memory.value(boundary::canonical_linked, *hash)),
+            Call::Best => tip(memory.tip(boundary::best)),
+            Call::CanonicalBest => tip(memory.tip(boundary::canonical_best)),
+            Call::CanonicalCount => number(memory.number(boundary::canonical_count)),
+            Call::LiveCount => number(memory.number(boundary::live_count)),
+            Call::Count => number(memory.number(boundary::effective_count)),
+            Call::Generation => number(memory.number(boundary::generation)),
+            Call::Version => number(memory.number(boundary::version)),
+            Call::Leaves => leaves(memory, lend),
             Call::Changes { generation, version } => changes(memory, *generation, *version, lend),
             Call::Amount(text) => amount(text),
             Call::Lend(length) => {
@@ -215,10 +275,39 @@ fn answer(asked: Asked, read: impl FnOnce(&[u64]) -> Answer) -> Answer {
     }
 }
 
+fn number(asked: Asked) -> Answer {
+    answer(asked, |words| Answer::Number(words[0]))
+}
+
+fn shown(asked: Asked) -> Answer {
+    answer(asked, |words| shown_of(words.try_into().expect("29 words")).map_or(Answer::None, Answer::Block))
+}
+
+fn worth(asked: Asked) -> Answer {
+    answer(asked, |words| value_of(words.try_into().expect("three words")).map_or(Answer::None, Answer::Work))
+}
+
+fn tip(asked: Asked) -> Answer {
+    answer(asked, |words| {
+        let (block, value) = words.split_at(29);
+        let block = shown_of(block.try_into().expect("29 words"));
+        let value = value_of(value.try_into().expect("three words"));
+        block.zip(value).map_or(Answer::None, |(block, value)| Answer::Tip(block.hash, value))
+    })
+}
+
 /// With a list of the length lent, or two places more than could be needed.
 fn changes(memory: &Memory, generation: u64, version: u64, lend: Option<u64>) -> Answer {
     let places = lend.unwrap_or(memory.number(boundary::version).words[0].saturating_sub(version).min(200_000) + 2);
-    let (asked, list) = memory.changes(generation, version, 32 * places as usize);
+    listed(memory.changes(generation, version, 32 * places as usize))
+}
+
+fn leaves(memory: &mut Memory, lend: Option<u64>) -> Answer {
+    let places = lend.unwrap_or(memory.number(boundary::effective_count).words[0] + 2);
+    listed(memory.leaves(32 * places as usize))
+}
+
+fn listed((asked, list): (Asked, Vec<u8>)) -> Answer {
     let (there, count) = (asked.words[0] == 1, asked.words[1] as usize);
     answer(asked, |_| {
         let filled = if there { count } else { 0 };

@@ -9,3 +9,4 @@ mod random;
 mod records;
 mod refusals;
 mod rooms;
+mod tree;

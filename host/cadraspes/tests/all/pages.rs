@@ -69,12 +69,14 @@ fn every_call(memory: &[u64], rng: &mut Rng) -> usize {
     let (mut target, mut actual) = (Lent::new(b"1"), Lent::new(b"00000000000000000000000000000000000000001"));
     let (mut shown, mut number, mut two) = (Lent::words(&[0; 29]), Lent::words(&[0]), Lent::words(&[0; 2]));
     let (mut three, mut list) = (Lent::words(&[0; 3]), Lent::new(&vec![0; rng.below(300) as usize]));
+    let three: &mut [u64; 3] = three.as_words().try_into().expect("3 words");
+    let two: &mut [u64; 2] = two.as_words().try_into().expect("2 words");
     let mem = memory.as_words();
     let hash: &[u8; 32] = (&*hash.bytes()).try_into().expect("32 bytes");
     let (prev, copy) = ((&*prev.bytes()).try_into().expect("32"), (&*copy.as_words()).try_into().expect("12"));
     let record = Record { hash, index: 0, epoch: 0, prev, target: target.bytes(), actual: actual.bytes(), copy };
     let number = &mut number.as_words()[0];
-    let shown = shown.as_words().try_into().expect("29 words");
+    let shown: &mut [u64; 29] = shown.as_words().try_into().expect("29 words");
     let asked = [boundary::version(mem, number), boundary::generation(mem, number)];
     let version = number.wrapping_sub(rng.below(6));
     let numbers = [
@@ -82,10 +84,20 @@ fn every_call(memory: &[u64], rng: &mut Rng) -> usize {
         boundary::load(mem, rng.below(4), &record),
         boundary::put(mem, rng.below(4), &record),
         boundary::effective(mem, hash, shown),
-        boundary::changes(mem, 1, version, list.bytes(), two.as_words().try_into().expect("2 words")),
+        boundary::changes(mem, 1, version, list.bytes(), two),
         boundary::answer(mem, hash, rng.below(3)),
         boundary::remove(mem, rng.below(3), hash),
-        boundary::amount(record.actual, three.as_words().try_into().expect("3 words")),
+        boundary::amount(record.actual, three),
+        boundary::sync(mem),
+        boundary::node(mem, hash, shown),
+        boundary::parent(mem, hash, shown),
+        boundary::linked_value(mem, hash, three),
+        boundary::canonical_linked(mem, hash, three),
+        boundary::best(mem, shown, three),
+        boundary::canonical_best(mem, shown, three),
+        boundary::canonical_count(mem, number),
+        boundary::live_count(mem, number),
+        boundary::leaves(mem, list.bytes(), two),
         boundary::reload(mem, 1 + rng.below(3), 0),
         boundary::start(mem, 1 + rng.below(8), 1 + rng.below(8), 1, 0),
     ];
@@ -107,7 +119,7 @@ fn nothing_outside_is_read() {
         }
         accepted += every_call(&words, &mut rng);
     }
-    assert!(accepted > 7_500, "{accepted} calls were accepted");
+    assert!(accepted > 15_000, "{accepted} calls were accepted");
     for words in 0..200 {
         every_call(&vec![rng.pick(&[0, 1, u64::MAX]); words], &mut rng);
     }

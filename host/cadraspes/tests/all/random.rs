@@ -24,10 +24,15 @@ fn random(rng: &mut Rng, version: u64) -> String {
     let (target, actual) = (rng.pick(&TEXTS[..4]), rng.pick(&TEXTS));
     let marks = rng.pick(&["- - - -", "o 5 - a", "c -1 stale -", "oc - peer-work:0x2:0x1 0"]);
     let back = version.saturating_sub(rng.below(5));
-    match rng.below(20) {
+    let prev = rng.pick(&["1", "1", "1", "1", "2"]);
+    match rng.below(32) {
+        20..=25 => "sync".to_string(),
+        26 | 27 => rng.pick(&["best", "cbest", "ccount", "live"]).to_string(),
+        28 | 29 => format!("{} {name}", rng.pick(&["node", "parent", "linked", "clinked"])),
+        30 | 31 => "leaves".to_string(),
         0 => format!("reload {} {}", rng.below(12), rng.pick(&[0, 3, u64::MAX - 2])),
-        1 | 2 => format!("load {store} {name} {index} 0 1 \"{target}\" \"{actual}\" {marks}"),
-        3..=7 => format!("put {store} {name} {index} 0 1 \"{target}\" \"{actual}\" {marks}"),
+        1 | 2 => format!("load {store} {name} {index} 0 {prev} \"{target}\" \"{actual}\" {marks}"),
+        3..=7 => format!("put {store} {name} {index} 0 {prev} \"{target}\" \"{actual}\" {marks}"),
         8..=10 => format!("remove {store} {name}"),
         11 | 12 => format!("answer {name} {}", rng.below(4)),
         13 => format!("effective {name}"),
@@ -44,8 +49,8 @@ fn random_calls_are_answered_as_document_01_is_read() {
         return;
     }
     let mut rng = Rng(6);
-    let mut refused = [0; 14];
-    for _ in 0..1500 {
+    let (mut refused, mut shown) = ([0; 14], 0);
+    for _ in 0..2500 {
         let (mut library, mut replay) = (Library::default(), reading::Replay::default());
         let version = rng.pick(&[0, 0, u64::MAX - 6]);
         let start = format!("start {} {} 1 {version}", 1 + rng.below(6), 1 + rng.below(4));
@@ -55,13 +60,15 @@ fn random_calls_are_answered_as_document_01_is_read() {
             let call = Call::read(&line).expect("a call");
             let answer = replay.call(&call);
             assert_eq!(library.call(&call), answer, "{line}");
+            shown += u32::from(line.starts_with("leaves") && answer.length() > 1);
             if let history::Answer::Refused(number) = answer {
                 refused[number as usize] += 1;
             }
         }
     }
     let met: Vec<usize> = (1..14).filter(|number| refused[*number] > 0).collect();
-    assert_eq!(met, [2, 3, 4, 5, 6, 7, 8, 9, 10, 11, 13], "{refused:?}");
+    assert_eq!(met, [2, 3, 4, 5, 6, 7, 8, 9, 10, 11, 12, 13], "{refused:?}");
+    assert!(shown > 100, "{shown} lists of several leaves");
 }
 
 /// Thousands of hashes, some with their last eight bytes alike, and a journal
@@ -82,12 +89,19 @@ fn many_hashes_are_held_as_document_01_is_read() {
     };
     let mut version = call("start 3000 500 1 0".to_string());
     for turn in 0..40_000 {
-        let (name, store) = (&names[rng.below(3_100) as usize], rng.below(3));
+        let (at, store) = (rng.below(3_100), rng.below(3));
+        let (name, index, prev) = (&names[at as usize], 64 - at.leading_zeros(), &names[at as usize / 2]);
+        let flags = rng.pick(&["-", "c", "c", "c", "o"]);
+        if turn % 800 == 799 {
+            for line in ["sync", "best", "cbest", "leaves", "live", "ccount"] {
+                call(line.to_string());
+            }
+        }
         version = match rng.below(16) {
-            0..=5 if turn < 2_000 => call(format!("load {store} {name} 0 0 1 \"1\" \"1\" - - - -")),
-            0..=7 => call(format!("put {store} {name} 0 0 1 \"1\" \"1\" o {turn} - {name}")),
+            0..=5 if turn < 700 => call(format!("load {store} {name} {index} 0 {prev} \"1\" \"{at}\" c - - -")),
+            0..=7 => call(format!("put {store} {name} {index} 0 {prev} \"1\" \"{at}\" {flags} {turn} - {name}")),
             8..=10 => call(format!("remove {store} {name}")),
-            11 => call(format!("answer {name} {}", rng.below(3))),
+            11 => call(format!("answer {name} {}", rng.pick(&[0, 0, 0, 0, 0, 0, 0, 1, 1, 2]))),
             12..=14 => call(format!("effective {name}")),
             _ if turn % 20 > 0 => call(format!("changes 1 {}", version.saturating_sub(rng.below(40)))),
             _ => call(format!("changes 1 {}", version.saturating_sub(rng.below(600)))),

@@ -3,7 +3,7 @@
 use crate::common::with_original;
 use crate::recorded::{all, text};
 use oracle::generate::{generate, HOLDINGS, PROFILES};
-use oracle::library::{compare, differs, given, library, Player};
+use oracle::library::{compare, differs, given, library, Compared, Player};
 use std::io::Write;
 use std::sync::Once;
 
@@ -28,7 +28,7 @@ fn recorded_answers(text: &str) -> Vec<String> {
     answers
 }
 
-/// Every recorded history up to its first sync, and those without one whole.
+/// Every recorded history; calls that the library lacks are passed over.
 #[test]
 fn the_library_gives_the_recorded_answers() {
     if !with_library() {
@@ -42,11 +42,12 @@ fn the_library_gives_the_recorded_answers() {
             let difference = differs(one, expected);
             assert!(difference.is_none(), "{}: {}", file.display(), difference.unwrap());
         }
+        assert_eq!(given.len(), expected.len(), "{}", file.display());
         let answered = given.iter().filter(|one| one.answer.is_some()).count();
         calls += answered;
         whole += usize::from(answered == expected.len());
     }
-    assert!(whole >= 20 && calls >= 800, "{whole} whole histories, {calls} calls");
+    assert!(whole >= 50 && calls >= 1_500, "{whole} whole histories, {calls} calls");
 }
 
 #[test]
@@ -61,12 +62,15 @@ fn random_histories_of_the_holdings() {
     }
 }
 
-/// The other profiles too, up to their first sync.
+/// The other profiles too, late answers among them: whole histories, with every
+/// question after each sync.
 #[test]
-fn openings_of_all_profiles() {
+fn random_histories_of_all_profiles() {
     if with_library() {
-        let compared = compare(10 * PROFILES.len() as u64, 6_000_000, &PROFILES, library, &|_| {});
+        let compared = compare(150 * PROFILES.len() as u64, 6_000_000, &PROFILES, library, &|_| {});
         assert!(compared.difference.is_none(), "{}", compared.difference.unwrap());
+        assert!(compared.syncs > 5 * compared.histories, "{}", compared.summary());
+        assert!((1..=13).all(|number| compared.refused.contains_key(&number)), "{}", compared.summary());
     }
 }
 
@@ -86,7 +90,7 @@ fn wrong(call: &'static str, from: &'static str, to: &'static str) -> Player {
     let mut library = library();
     Box::new(move |asked| {
         let answer = library(asked)?;
-        let there = asked.name() == call && answer.to_string() == from;
+        let there = asked.name() == call && answer.to_string().starts_with(from);
         Some(if there { history::Answer::Number(to.parse().expect("a number")) } else { answer })
     })
 }
@@ -103,8 +107,22 @@ fn a_wrong_library_is_found_and_its_history_made_small() {
         || wrong("answer", "11", "9"),
     ];
     for player in players {
-        let difference = compare(500, 7_000_000, &[HOLDINGS], player, &|_| {}).difference.expect("it is wrong");
-        let calls = difference.lines().filter(|line| !line.starts_with('#')).count();
-        assert!(difference.contains("the library: 0") && calls <= 6, "{difference}");
+        small(compare(500, 7_000_000, &[HOLDINGS], player, &|_| {}), 6);
     }
+    let trees: [fn() -> Player; 5] = [
+        || wrong("best", "0 ", "0"),
+        || wrong("linked", "0 0x2 no", "0"),
+        || wrong("leaves", "0 2", "2"),
+        || wrong("parent", "0 none", "0"),
+        || wrong("live", "12", "0"),
+    ];
+    for player in trees {
+        small(compare(500, 8_000_000, &PROFILES, player, &|_| {}), 6);
+    }
+}
+
+fn small(compared: Compared, calls: usize) {
+    let difference = compared.difference.expect("it is wrong");
+    let left = difference.lines().filter(|line| !line.starts_with('#')).count();
+    assert!(difference.contains("the library: 0") && left <= calls, "{difference}");
 }

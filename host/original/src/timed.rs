@@ -1,0 +1,53 @@
+//! The original's own calls, to be timed: blocks are made its own beforehand,
+//! so that nothing but its work is measured.
+use crate::convert::{hash, kind, to_original};
+use crate::models::miner::{Eligibility, MinerBlock, MinerBlockCache, MinerTree};
+use crate::Timed;
+use history::{Block, Hash};
+use std::collections::BTreeMap;
+use std::sync::Arc;
+
+pub struct Run {
+    blocks: Vec<Arc<MinerBlock>>,
+    cache: MinerBlockCache,
+    tree: MinerTree,
+}
+
+fn empty() -> MinerBlockCache {
+    MinerBlockCache::new(1, BTreeMap::new(), BTreeMap::new(), BTreeMap::new())
+}
+
+impl Run {
+    pub fn new(blocks: &[Block<String>]) -> Run {
+        let blocks = blocks.iter().map(to_original).map(Arc::new).collect();
+        Run { blocks, cache: empty(), tree: MinerTree::default() }
+    }
+}
+
+impl Timed for Run {
+    fn forget(&mut self) {
+        (self.cache, self.tree) = (empty(), MinerTree::default());
+    }
+
+    fn start(&mut self, count: usize) {
+        let named = |block: &Arc<MinerBlock>| (block.hash.clone(), block.clone());
+        let active = self.blocks[..count].iter().map(named).collect();
+        self.cache = MinerBlockCache::new(1, active, BTreeMap::new(), BTreeMap::new());
+    }
+
+    fn put(&mut self, at: usize) {
+        self.cache.put(kind(0), &self.blocks[at]);
+    }
+
+    fn sync(&mut self) {
+        self.tree.sync(&self.cache, &mut |_, _| Eligibility::EligibleForNow);
+    }
+
+    fn best(&self) -> u128 {
+        self.tree.best().map_or(0, |(_, linked)| linked.work)
+    }
+
+    fn best_hash(&self) -> Option<Hash> {
+        self.tree.best().map(|(block, _)| hash(&block.hash))
+    }
+}
