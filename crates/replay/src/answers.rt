@@ -2,12 +2,15 @@
 use crate::blocks;
 use crate::lists;
 use crate::write;
+use amount::Amount;
 use amount::Reading;
 use block::Counted;
 use block::Done;
 use block::Listed;
 use block::Refusal;
 use block::Shown;
+use block::Tip;
+use block::Worth;
 
 // ---- lines that begin with a question mark ----
 
@@ -81,6 +84,41 @@ pub fn shown(x: Shown) {
         }
         Shown::None => none(),
         Shown::Refused(y) => refused(y),
+    }
+}
+
+// AMOUNT ok, or AMOUNT no.
+fn work(w: Amount, ok: bool) {
+    write::amount(w);
+    if ok {
+        write::out(b" ok\n");
+    } else {
+        write::out(b" no\n");
+    }
+}
+
+pub fn worth(x: Worth) {
+    match x {
+        Worth::Linked(w, ok) => {
+            write::out(b"0 ");
+            work(w, ok);
+        }
+        Worth::None => none(),
+        Worth::Refused(y) => refused(y),
+    }
+}
+
+pub fn tip(x: Tip) {
+    match x {
+        Tip::Best(b, w, ok) => {
+            let h = b.header;
+            write::out(b"0 ");
+            write::hash(h.hash);
+            write::out(b" ");
+            work(w, ok);
+        }
+        Tip::None => none(),
+        Tip::Refused(y) => refused(y),
     }
 }
 

@@ -8,7 +8,6 @@ use crate::words;
 use crate::words::Hashed;
 use crate::words::Numbered;
 use crate::words::Pair;
-use crate::words::Quoted;
 use block::Done;
 
 // ---- start, reload ----
@@ -92,35 +91,7 @@ pub fn answer(line: &[u8], mem: &mut [u64]) {
     answers::done(holdings::answer(mem, h, value));
 }
 
-// ---- questions ----
-
-pub fn generation(line: &[u8], mem: &[u64]) {
-    if !words::has(line, 1) {
-        return answers::no_call();
-    }
-    answers::counted(holdings::generation(mem));
-}
-
-pub fn version(line: &[u8], mem: &[u64]) {
-    if !words::has(line, 1) {
-        return answers::no_call();
-    }
-    answers::counted(holdings::version(mem));
-}
-
-pub fn count(line: &[u8], mem: &[u64]) {
-    if !words::has(line, 1) {
-        return answers::no_call();
-    }
-    answers::counted(holdings::effective_count(mem));
-}
-
-pub fn effective(line: &[u8], mem: &[u64]) {
-    let Hashed::Hash(h) = words::one_hash(line) else {
-        return answers::no_call();
-    };
-    answers::shown(holdings::effective(mem, h));
-}
+// ---- what is lent: a list to changes, and how long lists are ----
 
 pub fn changes(line: &[u8], mem: &[u64], list: &mut [u8], lent: u64) {
     let Pair::Numbers(generation, version) = words::two_numbers(line) else {
@@ -129,21 +100,6 @@ pub fn changes(line: &[u8], mem: &[u64], list: &mut [u8], lent: u64) {
     let n = lists::lent_bytes(list.len(), lent);
     let given = holdings::changes(mem, generation, version, &mut list[0..n]);
     answers::listed(given, list);
-}
-
-// ---- amounts and lent lists, which ask no memory but whether there was a start ----
-
-pub fn amount(line: &[u8], mem: &[u64]) {
-    let Quoted::Reads(r) = words::text(words::word(line, 1)) else {
-        return answers::no_call();
-    };
-    if !words::has(line, 2) {
-        return answers::no_call();
-    }
-    if memory::room(mem) == 0 {
-        return answers::no_start();
-    }
-    answers::reading(r);
 }
 
 // `-`, or a NUMBER.

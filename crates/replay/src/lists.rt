@@ -1,4 +1,4 @@
-// The list that is lent to changes and to later calls of its kind (docs/HISTORY.md, `lend`): 32 bytes a hash, outside of the library's memory.
+// The list that is lent to changes and leaves (docs/HISTORY.md, `lend`): 32 bytes a hash, outside of the library's memory.
 ghost use Prim.Native.Nat.{_+_, _≤_};
 ghost use lib.ListN.{length};
 use crate::write;

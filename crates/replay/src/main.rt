@@ -1,11 +1,13 @@
 // Replays a history (docs/HISTORY.md) on the library: calls on standard input, a line each, and their answers on standard output.
-// This file reads the lines and tells the calls apart; `holding` makes the calls, `words`, `reasons` and `blocks` read what
-// stands in a line, `answers`, `lists` and `write` write.
+// This file reads the lines and tells the calls apart; `holding`, `standing` and `questions` make the calls, `words`, `reasons` and
+// `blocks` read what stands in a line, `answers`, `lists` and `write` write.
 mod answers;
 mod blocks;
 mod holding;
 mod lists;
+mod questions;
 mod reasons;
+mod standing;
 mod words;
 mod write;
 
@@ -29,44 +31,32 @@ const LIST: usize = 1457824;
 
 // The calls that the library does not have yet.
 fn later(name: &[u8]) {
-    match words::place(
-        name,
-        b"sync node parent linked clinked best cbest ccount live leaves select adopt choose",
-    ) {
-        0..=12 => answers::not_yet(),
+    match words::place(name, b"select adopt choose") {
+        0..=2 => answers::not_yet(),
         _ => answers::no_call(),
     }
 }
 
-fn question(name: &[u8], line: &[u8], mem: &[u64]) {
-    match words::place(name, b"effective count generation version amount") {
-        0 => holding::effective(line, mem),
-        1 => holding::count(line, mem),
-        2 => holding::generation(line, mem),
-        3 => holding::version(line, mem),
-        4 => holding::amount(line, mem),
-        _ => later(name),
-    }
-}
-
 fn call(name: &[u8], line: &[u8], mem: &mut [u64]) {
-    match words::place(name, b"reload load put remove answer") {
+    match words::place(name, b"reload load put remove answer sync") {
         0 => holding::reload(line, mem),
         1 => holding::load(line, mem),
         2 => holding::put(line, mem),
         3 => holding::remove(line, mem),
         4 => holding::answer(line, mem),
-        _ => question(name, line, mem),
+        5 => standing::sync(line, mem),
+        _ => questions::question(name, line, mem),
     }
 }
 
 // Answers a call, and gives the length that later lists are lent at.
 fn answer_call(line: &[u8], mem: &mut [u64], list: &mut [u8], lent: u64) -> u64 {
     let name = words::word(line, 0);
-    match words::place(name, b"start lend changes") {
+    match words::place(name, b"start lend changes leaves") {
         0 => return holding::start(line, mem, lent),
         1 => return holding::lend(line, mem, lent),
         2 => holding::changes(line, mem, list, lent),
+        3 => standing::leaves(line, mem, list, lent),
         _ => call(name, line, mem),
     }
     lent
@@ -183,37 +173,43 @@ fn part(
     }
 }
 
+// What comes belongs to a line that was too long.
+fn passing_over(lent: u64) -> Left {
+    Left {
+        held: 0,
+        lent,
+        long: true,
+        ended: false,
+    }
+}
+
+// The same, of a line that was too long: what is left of it is passed over first.
+fn late_part(text: &mut [u8], mem: &mut [u64], list: &mut [u8], lent: u64, have: usize) -> Left
+    requires { ⌜ have ≤ length (now text) ⌝ }
+{
+    let from = bytes::scan::find(text, 0, have, b'\n');
+    if from == have {
+        return passing_over(lent);
+    }
+    part(text, mem, list, lent, from + 1, have)
+}
+
 // A line that does not fit the text is said to be too long, and the rest of it is passed over.
 fn turn(text: &mut [u8], mem: &mut [u64], list: &mut [u8], left: Left) -> Left {
     let held = left.held;
     if text.len() <= held {
         answers::too_long();
-        return Left {
-            held: 0,
-            lent: left.lent,
-            long: true,
-            ended: false,
-        };
+        return passing_over(left.lent);
     }
     let to = part_end(held, text.len());
     let got = more(&mut text[held..to]);
     if got == 0 {
         return end(&text[0..held], mem, list, left);
     }
-    let have = held + got;
-    if !left.long {
-        return part(text, mem, list, left.lent, 0, have);
+    if left.long {
+        return late_part(text, mem, list, left.lent, held + got);
     }
-    let from = bytes::scan::find(text, 0, have, b'\n');
-    if from == have {
-        return Left {
-            held: 0,
-            lent: left.lent,
-            long: true,
-            ended: false,
-        };
-    }
-    part(text, mem, list, left.lent, from + 1, have)
+    part(text, mem, list, left.lent, 0, held + got)
 }
 
 // A proved loop ends, and nothing says that an input does: the turns are counted down from a number that no run uses up.

@@ -339,15 +339,7 @@ pub fn flags(word: &[u8]) -> Flagged {
     }
 }
 
-// ---- what several calls have behind their name, and nothing more ----
-
-// HASH
-pub fn one_hash(line: &[u8]) -> Hashed {
-    if !has(line, 2) {
-        return Hashed::No;
-    }
-    hash(word(line, 1))
-}
+// ---- what two calls have behind their name, and nothing more ----
 
 // GENERATION VERSION
 pub fn two_numbers(line: &[u8]) -> Pair {

@@ -76,7 +76,7 @@ allowed-index free = refl
 allowed-index (held c) = refl
 
 -- a contest of turns with no member is as it was
-idle-kept : (m m′ : List ℕ) (n : ℕ) → Laid m n → ((j : ℕ) → j < n → word m′ (nodes n 2 + j) ≡ word m (nodes n 2 + j)) → ((q : ℕ) → q < n → word m′ (row q + 59) ≡ word m (row q + 59))
+pub idle-kept : (m m′ : List ℕ) (n : ℕ) → Laid m n → ((j : ℕ) → j < n → word m′ (nodes n 2 + j) ≡ word m (nodes n 2 + j)) → ((q : ℕ) → q < n → word m′ (row q + 59) ≡ word m (row q + 59))
     → Pends m n (λ q. false) → Pends m′ n (λ q. false)
 idle-kept m m′ n laid node marks p = record {
   tree = still m m′ n 2 (laid .few) (record { node = node; marks = marks; keys = λ q h e. no-both true refl (sym e ∙ p .members q h) }) (p .tree);

@@ -1,0 +1,2 @@
+-- Walks that the plans read and note.
+pub mod Walked
