@@ -91,7 +91,7 @@ impl Which {
 /// Nanoseconds a call: the median of the rounds.
 fn time(memory: &[u64], which: Which, blocks: &[Block], call: Call) -> f64 {
     let before = if let Which::Eight = which { &blocks[..8] } else { &[] };
-    let rounds: Vec<f64> = (0..ROUNDS)
+    let mut rounds: Vec<f64> = (0..ROUNDS)
         .map(|_| {
             let mut memory = memory.to_vec();
             before.iter().for_each(|block| assert_eq!(call(&mut memory, block), 0));
@@ -102,12 +102,8 @@ fn time(memory: &[u64], which: Which, blocks: &[Block], call: Call) -> f64 {
             time
         })
         .collect();
-    median(rounds)
-}
-
-fn median(mut times: Vec<f64>) -> f64 {
-    times.sort_by(f64::total_cmp);
-    times[times.len() / 2]
+    rounds.sort_by(f64::total_cmp);
+    rounds[ROUNDS / 2]
 }
 
 type Call = fn(&mut [u64], &Block) -> u64;
