@@ -1,0 +1,2 @@
+-- The entries of a plan: what one means, and what the steps that hand them back promise.
+pub mod Entries
