@@ -139,9 +139,6 @@ module _ (m₀ m : List ℕ) (n : ℕ) (up : Bool) (top f q left : ℕ) (laid : 
     next s = ap (λ (t : State). parent (t .holdings) q) (sym (pend-view m₀ m₂ n climbing-only)) ∙ d (pend-sound m₀ m₂ n laid climbing-only s)
 
     module _ (s : SoundAt m₀ n) (a : Asked) (e : a .holdings ≡ viewAt m₀ n .holdings) (v : isLive (viewAt m₀ n .holdings .cells top) ≡ true) (u : Used m₀ f) (c : ℕ → ℕ) (k : Coded m₀ n c) where
-      now-codes : ℕ → ℕ
-      now-codes = p .right s a e v u c k .codes
-
       is : y ≡ climbed up (viewAt m₀ n .holdings) q (p .right s a e v u c k .codes q)
       is = told ∙ ap (λ (t : State). climbed up (t .holdings) q (word m (row q + 59))) (pend-view m₀ m n (p .only)) ∙ ap (climbed up (viewAt m₀ n .holdings) q) (p .right s a e v u c k .coded .codes q (p .low))
 

@@ -35,9 +35,6 @@ turned-live Near h top q c k x = byBool (eqb c 8) (λ e. let z = eqb-true c 8 e 
 turned-live (Into to) h top q c k x = byBool (eqb c 8) (λ e. let z = eqb-true c 8 e in k (λ y. omega arith)) (λ e. k (λ z. x (rw e z)))
 
 module _ (m : List ℕ) (n top k q : ℕ) (q<n : q < n) where
-  abbrev here : Holdings
-  here = viewAt m n .holdings
-
   abbrev OnLine : Bool → Type 0
   OnLine b = SoundAt m n → Used m q → Lined m n top k → b ≡ elem q (walk (viewAt m n .holdings) top)
 

@@ -22,7 +22,6 @@ ghost use Rattle.state.specs.Sound.{SoundAt, Used};
 ghost use Rattle.state.specs.View.{cellsOf, viewAt};
 ghost use Rattle.walks.specs.Walked.{Lined};
 ghost use Rattle.writing.specs.Steps.{Codes};
-
 use block::Choice;
 use block::Outcome;
 use block::Side;
@@ -293,14 +292,28 @@ fn floor_holds(floor: Floor, fork: u64, local: u64, stray: bool) -> bool
 }
 
 // `stray` tells whether a block aside is off best's walk.
-fn held_back(mem: &[u64], n: usize, top: usize, local: usize, f: usize, floor: Floor, per_epoch: u64, stray: bool) -> bool
+fn held_back(
+    mem: &[u64],
+    n: usize,
+    top: usize,
+    local: usize,
+    f: usize,
+    floor: Floor,
+    per_epoch: u64,
+    stray: bool,
+) -> bool
     requires { ⌜ Laid (now mem) n × (top < n) × (local < n) × (f < n) ⌝ }
     ensures { λ r. ⌜ (Used (now (mem .entry)) top → Used (now (mem .entry)) local → Used (now (mem .entry)) f → (a : Asked) → Asks a (now (mem .entry)) n (floorMeans floor) «per_epoch» → any (λ p. not (on a top p)) (aside a local) ≡ stray → r ≡ heldBack a top local f) ⌝ }
 {
     if !proven(standing::read(mem, 64 + 68 * local + 60)) {
         return false;
     }
-    if floor_holds(floor, mem[64 + 68 * f + 12], mem[64 + 68 * local + 12], stray) {
+    if floor_holds(
+        floor,
+        mem[64 + 68 * f + 12],
+        mem[64 + 68 * local + 12],
+        stray,
+    ) {
         return true;
     }
     if !covers_at(mem, n, local, per_epoch) {
