@@ -1,0 +1,3 @@
+-- What the core of Select is asked with and answers, and what its steps make of the codes.
+pub mod Choosing
+pub mod Turned
