@@ -1,0 +1,4 @@
+-- Laws of Adopt's pieces; each function's own proof stands in a folder of its name.
+pub mod BlockLaws
+pub mod GatherLaws
+pub mod ScanLaws

@@ -1,0 +1,3 @@
+-- Adopt's pieces: what is gathered down a walk, and an extension scanned.
+pub mod Gathered
+pub mod Scanned
