@@ -2,3 +2,7 @@
 pub mod BlockLaws
 pub mod GatherLaws
 pub mod ScanLaws
+pub mod OurLaws
+pub mod SideLaws
+pub mod OursLaws
+pub mod PeerLaws
