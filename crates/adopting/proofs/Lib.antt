@@ -6,3 +6,4 @@ pub mod OurLaws
 pub mod SideLaws
 pub mod OursLaws
 pub mod PeerLaws
+pub mod OrphanLaws

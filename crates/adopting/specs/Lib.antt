@@ -2,3 +2,4 @@
 pub mod Gathered
 pub mod Scanned
 pub mod Sides
+pub mod Orphans
