@@ -183,7 +183,7 @@ fn reaches(t: Amount, a: Amount) -> bool
 }
 
 // Both amounts readable, target above 0, actual at least target.
-fn meets(target: Reading, actual: Reading) -> bool
+pub fn meets(target: Reading, actual: Reading) -> bool
     ensures { λ r. ⌜ r ≡ model.meets (meant target) (meant actual) ⌝ }
 {
     match target {
