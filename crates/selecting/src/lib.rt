@@ -216,7 +216,7 @@ fn covers_at(mem: &[u64], n: usize, p: usize, per_epoch: u64) -> bool
     choice::covers(mem[at + 12], mem[at + 13], per_epoch)
 }
 
-// A value as work: known exactly if its proofs are ok.
+// The work of a side: known exactly if its proofs are ok.
 fn scored(v: Value) -> Work
     ensures { λ r. ⌜ workMeans r ≡ scoredBy (valueMeans v) ⌝ }
 {
