@@ -3,3 +3,4 @@ pub mod FinishLaws
 pub mod TakeLaws
 pub mod OrderLaws
 pub mod HandLaws
+pub mod Again
