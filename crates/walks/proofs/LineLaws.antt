@@ -17,7 +17,8 @@ use Rattle.state.specs.Sound.{SoundAt, placed}
 use Rattle.state.specs.View.{viewAt}
 use Rattle.state.specs.TreeOnly.{TreeOnly}
 use Rattle.state.proofs.FindLaws.{placed-in, placed-out}
-use Rattle.state.proofs.TreeSteps.{tree-laid, tree-holdings, tree-sound}
+use Rattle.state.proofs.SoundLaws.{laid-same}
+use Rattle.state.proofs.TreeSteps.{tree-holdings, tree-sound}
 use Rattle.walks.specs.Walked.{LineOnly, Lined}
 use Rattle.walks.proofs.DownLaws.{walk-end, walk-on, walk-some, room-most}
 
@@ -33,10 +34,14 @@ line-tree m m′ n o = record {
   rest = λ a h. o .only a (λ q i e. omega arith);
 }
 
+-- a store past the head leaves the layout
+pub store-laid : (m m′ : List ℕ) (n a v : ℕ) → Laid m n → 2 ≤ a → Stored m m′ a v → Laid m′ n
+store-laid m m′ n a v l i s = laid-same m m′ n l (stored-other s 0 (λ e. omega arith)) (stored-other s 1 (λ e. omega arith)) (stored-long s)
+
 line-none : (m : List ℕ) (n : ℕ) → LineOnly m m n
 line-none m n = record { long = refl; only = λ a f. refl }
 
-line-more : (m m₁ m₂ : List ℕ) (n k v : ℕ) → k < n → LineOnly m m₁ n → Stored m₁ m₂ (row k + 65) v → LineOnly m m₂ n
+pub line-more : (m m₁ m₂ : List ℕ) (n k v : ℕ) → k < n → LineOnly m m₁ n → Stored m₁ m₂ (row k + 65) v → LineOnly m m₂ n
 line-more m m₁ m₂ n k v i o s = record { long = stored-long s ∙ o .long; only = λ a f. stored-other s a (λ e. f k i e) ∙ o .only a f }
 
 -- ---- what is noted ----
@@ -67,11 +72,8 @@ head-is : (h : Holdings) (q : ℕ) (l : List ℕ) → walk h q ≡ q ∷ l → g
 head-is h q l e = rw e
 
 module _ (m m₁ m₂ : List ℕ) (n top q k : ℕ) (c : Noting m m₁ n top q k) (i : k < n) (st : Stored m₁ m₂ (row k + 65) q) where
-  pub store-only : LineOnly m m₂ n
-  store-only = line-more m m₁ m₂ n k q i (c .only) st
-
-  pub store-laid : Laid m₂ n
-  store-laid = tree-laid m₁ m₂ n (line-tree m₁ m₂ n (line-more m₁ m₁ m₂ n k q i (line-none m₁ n) st)) (c .laid)
+  only-more : LineOnly m m₂ n
+  only-more = line-more m m₁ m₂ n k q i (c .only) st
 
   -- what stands in memory, q being the first of its own walk
   at-more : SoundAt m n → (l : List ℕ) → walk (viewAt m n .holdings) q ≡ q ∷ l → (d : ℕ) → d < k + 1 → word m₂ (row d + 65) ≡ getD (walk (viewAt m n .holdings) top) d 0
@@ -85,10 +87,10 @@ module _ (m m₁ m₂ : List ℕ) (n top q k : ℕ) (c : Noting m m₁ n top q k
 
   module _ (r : ℕ) (d : SoundAt m₂ n → parent (viewAt m₂ n .holdings) q ≡ placed n r) where
     next : SoundAt m n → parent (viewAt m n .holdings) q ≡ placed n r
-    next s = let t = line-tree m m₂ n store-only in ap (λ (h : Holdings). parent h q) (sym (tree-holdings m m₂ n t)) ∙ d (tree-sound m m₂ n t s)
+    next s = let t = line-tree m m₂ n only-more in ap (λ (h : Holdings). parent h q) (sym (tree-holdings m m₂ n t)) ∙ d (tree-sound m m₂ n t s)
 
     pub noting-more : r < n → Noting m m₂ n top r (k + 1)
-    noting-more l = record { only = store-only; low = l; top-low = c .top-low; laid = store-laid; right = more }
+    noting-more l = record { only = only-more; low = l; top-low = c .top-low; laid = store-laid m₁ m₂ n (row k + 65) q (c .laid) (omega arith) st; right = more }
       where
         more : SoundAt m n → Reached m m₂ n top r (k + 1)
         more s =
@@ -103,7 +105,7 @@ module _ (m m₁ m₂ : List ℕ) (n top q k : ℕ) (c : Noting m m₁ n top q k
     noting-done l s =
         let e = walk-end (viewAt m n .holdings) q (next s ∙ placed-out n r l) in
         let g = w-long e in
-        let v = tree-holdings m m₂ n (line-tree m m₂ n store-only) in record {
+        let v = tree-holdings m m₂ n (line-tree m m₂ n only-more) in record {
           long = rw v g;
           short = omega (arith, g, room-most m n top (c .top-low));
           at = λ d h. rw v (at-more s [] e d h);

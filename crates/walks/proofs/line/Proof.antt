@@ -1,10 +1,11 @@
 -- `walks::line` meets its contract: the k places before q are noted.
-use mathlib.Core.Path.{refl}
+use mathlib.Core.Path.{refl, _∙_}
 use Prim.Native.Nat.{_-_}
 use native.Mathlib.Omega.{arith}
+use lib.ListN.{length-set}
 use denote.Ref.{now}
 use borrow.Author.Needs.{needs}
-use Rattle.walks.proofs.LineLaws.{Noting, noting-start, store-only, store-laid, noting-more, noting-done, noting-out}
+use Rattle.walks.proofs.LineLaws.{Noting, store-laid, line-more, noting-start, noting-more, noting-done, noting-out}
 use Rattle.walks.proofs.line.Statement.{statement}
 use Rattle.walks.proofs.line.Tie as tie
 
@@ -21,23 +22,17 @@ slice-write-mem : tie.Need-slice-write-mem Inv-loop μ-loop
 slice-write-mem c = let f = c .before .loop .inv .laid .fits in omega arith
 
 parent-requires : tie.Need-parent-requires Inv-loop μ-loop
-parent-requires c κs =
-    let a = c .before .before .before .before .args in
-    let l = c .before .before .loop in
-    (store-laid (now (a .mem)) (l .mem) _ (a .n) (a .top) (l .q) (l .k) (l .inv) (c .before .loop-test .taken) (record { now-is = refl }), l .inv .low)
+parent-requires c κs = let l = c .before .before .loop in (store-laid (l .mem) _ _ _ _ (l .inv .laid) (omega arith) (record { now-is = refl }), l .inv .low)
 
 same-length : tie.Need-same-length Inv-loop μ-loop
-same-length c =
-    let a = c .before .before .before .before .before .before .args in
-    let l = c .before .before .before .before .loop in
-    store-only (now (a .mem)) (l .mem) _ (a .n) (a .top) (l .q) (l .k) (l .inv) (c .before .before .before .loop-test .taken) (record { now-is = refl }) .long
+same-length c = let l = c .before .before .before .before .loop in length-set (l .mem) _ _ ∙ l .inv .only .long
 
 returns : tie.Need-returns Inv-loop μ-loop
 returns c =
     let a = c .before .before .before .before .before .before .args in
     let l = c .before .before .before .before .loop in
     let t = c .before .before .before .loop-test .taken in (
-      store-only (now (a .mem)) (l .mem) _ (a .n) (a .top) (l .q) (l .k) (l .inv) t (record { now-is = refl }),
+      line-more (now (a .mem)) (l .mem) _ (a .n) (l .k) _ t (l .inv .only) (record { now-is = refl }),
       λ s u. noting-done (now (a .mem)) (l .mem) _ (a .n) (a .top) (l .q) (l .k) (l .inv) t (record { now-is = refl }) _ (c .before .parent .ensures) (c .if1 .taken) s,
     )
 
