@@ -16,6 +16,8 @@ fn main() {
     println!("cargo:rerun-if-changed=build.rs");
     let (folder, archive) = (folder(), folder().join("libcadraspes.a"));
     println!("cargo:rerun-if-changed={}", archive.display());
+    // for the test that links it to a program of C
+    println!("cargo:rustc-env=CADRASPES_ARCHIVE={}", archive.display());
     if !archive.is_file() {
         println!("cargo:warning={} is not there: run tools/native-staticlib cadraspes", archive.display());
         return;

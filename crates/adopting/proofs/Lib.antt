@@ -1,9 +1,5 @@
--- Laws of Adopt's pieces; each function's own proof stands in a folder of its name.
-pub mod BlockLaws
-pub mod GatherLaws
-pub mod ScanLaws
-pub mod OurLaws
-pub mod SideLaws
-pub mod OursLaws
-pub mod PeerLaws
-pub mod OrphanLaws
+-- Laws of Adopt; each function's own proof stands in a folder of its name.
+pub mod ListLaws
+pub mod RankLaws
+pub mod SearchLaws
+pub mod AdoptLaws

@@ -1,5 +1,3 @@
--- Adopt's pieces: what is gathered down a walk, and an extension scanned.
-pub mod Gathered
-pub mod Scanned
-pub mod Sides
-pub mod Orphans
+-- The leaves that Adopt goes through.
+pub mod Searched
+pub mod Searching

@@ -34,7 +34,7 @@ use Rattle.state.proofs.FindLaws.{used-is, placed-in, placed-out}
 use Rattle.pending.proofs.NextLaws.{hash-is}
 use Rattle.relink.proofs.WorkLaws.{linked-is, canonical-is}
 use Rattle.asking.specs.Whole.{WholeAt}
-use Rattle.asking.specs.Within.{Tips, Bests, bestOf}
+use Rattle.asking.specs.Within.{Tips, Bests, Top, bestOf}
 
 -- ---- an order in which two places tie ----
 
@@ -63,7 +63,7 @@ index-is : (m : List ℕ) (n p : ℕ) → p < n → Used m p → indexOf (cellsO
 unfolding headerAt headerOf
 index-is m n p l u = ap indexOf (used-is m n p l u) ∙ ap (word m) (omega arith)
 
-value-in : (m : List ℕ) (n p : ℕ) (w : Spine) → p < n → valuesOf m n w p ≡ rows.valueAt m w p
+pub value-in : (m : List ℕ) (n p : ℕ) (w : Spine) → p < n → valuesOf m n w p ≡ rows.valueAt m w p
 value-in m n p w l = rw (lt-ltb p n l)
 
 -- ---- the champion is the best ----
@@ -73,7 +73,7 @@ module _ (m : List ℕ) (n k : ℕ) (w : Spine) (other : (k ≡ 3 → ⊥) × (k
     (work : (p : ℕ) → p < n → enters m k p ≡ true → workAt m (workWord k) p ≡ workOf (valuesOf m n w p))
     (used : (p : ℕ) → p < n → enters m k p ≡ true → Used m p)
     (s : SoundAt m n) (r : ℕ) (c : Champion n (contest.view m n k) r) where
-  order-is : (p q : ℕ) → p < n → q < n → enters m k p ≡ true → enters m k q ≡ true → keys.outranking m (workWord k) p q ≡ outranks (viewAt m n .holdings) (valuesOf m n w) p q
+  pub order-is : (p q : ℕ) → p < n → q < n → enters m k p ≡ true → enters m k q ≡ true → keys.outranking m (workWord k) p q ≡ outranks (viewAt m n .holdings) (valuesOf m n w) p q
   unfolding keys.outranking keys.hashAt outranks headerAt headerOf viewAt
   order-is p q lp lq ep eq = rw (work p lp ep, work q lq eq, index-is m n p lp (used p lp ep), index-is m n q lq (used q lq eq), hash-is m n p lp (used p lp ep), hash-is m n q lq (used q lq eq))
 
@@ -102,7 +102,7 @@ module _ (m : List ℕ) (n k : ℕ) (w : Spine) (other : (k ≡ 3 → ⊥) × (k
       (λ p e. let g = pick-some (λ p. isLinked (valuesOf m n w p)) (outranks (viewAt m n .holdings) (valuesOf m n w)) n p e in
       no-both (isLinked (valuesOf m n w p)) (g .0) (sym (member p (g .1)) ∙ nobody m n k r c l p (g .1)))
 
-  best-is : best (viewAt m n .holdings) (valuesOf m n w) ≡ placed n r
+  pub best-is : best (viewAt m n .holdings) (valuesOf m n w) ≡ placed n r
   best-is = byBool (ltb r n) (λ e. let l = ltb-true r n e in there l ∙ sym (placed-in n r l)) (λ e. let l = ltb-false r n e in nowhere l ∙ sym (placed-out n r l))
 
   best-linked : r < n → isLinked (valuesOf m n w r) ≡ true
@@ -111,7 +111,7 @@ module _ (m : List ℕ) (n k : ℕ) (w : Spine) (other : (k ≡ 3 → ⊥) × (k
 -- ---- the two contests ----
 
 module _ (m : List ℕ) (n : ℕ) (a : WholeAt m n) where
-  member-winner : (p : ℕ) → p < n → enters m 0 p ≡ isLinked (valuesOf m n winner p)
+  pub member-winner : (p : ℕ) → p < n → enters m 0 p ≡ isLinked (valuesOf m n winner p)
   member-winner p l = linked-is m p ∙ ap isLinked (sym (value-in m n p winner l))
 
   member-canonical : (p : ℕ) → p < n → enters m 1 p ≡ isLinked (valuesOf m n canonical p)
@@ -120,14 +120,14 @@ module _ (m : List ℕ) (n : ℕ) (a : WholeAt m n) where
   words : (p i : ℕ) → fromWords (word m (row p + (i + 1))) (word m (row p + (i + 1 + 1))) ≡ fromWords (seg m (row p + i) 3 1) (seg m (row p + i) 3 2)
   words p i = ap (λ (x : ℕ). fromWords (word m x) (word m (row p + (i + 1 + 1)))) (omega arith) ∙ ap (λ (x : ℕ). fromWords (word m (row p + i + 1)) (word m x)) (omega arith)
 
-  work-winner : (p : ℕ) → p < n → enters m 0 p ≡ true → workAt m 57 p ≡ workOf (valuesOf m n winner p)
+  pub work-winner : (p : ℕ) → p < n → enters m 0 p ≡ true → workAt m 57 p ≡ workOf (valuesOf m n winner p)
   work-winner p l e = words p 56 ∙ sym (value-work (seg m (row p + 56) 3) (sym (linked-is m p) ∙ e)) ∙ ap workOf (sym (value-in m n p winner l))
 
   work-canonical : (p : ℕ) → p < n → enters m 1 p ≡ true → workAt m 61 p ≡ workOf (valuesOf m n canonical p)
   work-canonical p l e = words p 60 ∙ sym (value-work (seg m (row p + 60) 3) (sym (canonical-is m p) ∙ e)) ∙ ap workOf (sym (value-in m n p canonical l))
 
   -- in a fresh tree a linked place is live
-  alive : (w : Spine) (p : ℕ) → word m 7 ≡ 1 → isLinked (valuesOf m n w p) ≡ true → isLive (cellsOf m n p) ≡ true
+  pub alive : (w : Spine) (p : ℕ) → word m 7 ≡ 1 → isLinked (valuesOf m n w p) ≡ true → isLive (cellsOf m n p) ≡ true
   unfolding viewAt
   alive w p f e = linked-alive (viewAt m n .holdings) w (valuesOf m n w) (upheld (a .run) (eq-eqb (word m 7) 1 f) w) p e
 
@@ -204,4 +204,22 @@ module _ (m : List ℕ) (n p r : ℕ) (y : Reply) where
         told canonical a f t
         (best-is m n 1 canonical ((λ e. omega arith), (λ e. omega arith)) (member-canonical m n a) (work-canonical m n a) (a .treed .canonical) (a .sound) p (c (a .treed .canonicals)))
         (best-linked m n 1 canonical ((λ e. omega arith), (λ e. omega arith)) (member-canonical m n a) (work-canonical m n a) (a .treed .canonical) (a .sound) p (c (a .treed .canonicals)));
+  }
+
+-- ---- what a plan begins with ----
+
+-- the champion of the contest of a spine is the best; it is linked, and in a fresh tree live
+module _ (m : List ℕ) (n p : ℕ) (a : WholeAt m n) (f : word m 7 ≡ 1) where
+  pub top-winner : (WF n (contest.view m n 0) → Champion n (contest.view m n 0) p) → Top winner m n p
+  top-winner c = record {
+    best-is = best-is m n 0 winner ((λ e. omega arith), (λ e. omega arith)) (member-winner m n a) (work-winner m n a) (a .treed .linked) (a .sound) p (c (a .treed .winners));
+    linked = best-linked m n 0 winner ((λ e. omega arith), (λ e. omega arith)) (member-winner m n a) (work-winner m n a) (a .treed .linked) (a .sound) p (c (a .treed .winners));
+    live = λ l. alive m n a winner p f (best-linked m n 0 winner ((λ e. omega arith), (λ e. omega arith)) (member-winner m n a) (work-winner m n a) (a .treed .linked) (a .sound) p (c (a .treed .winners)) l);
+  }
+
+  pub top-canonical : (WF n (contest.view m n 1) → Champion n (contest.view m n 1) p) → Top canonical m n p
+  top-canonical c = record {
+    best-is = best-is m n 1 canonical ((λ e. omega arith), (λ e. omega arith)) (member-canonical m n a) (work-canonical m n a) (a .treed .canonical) (a .sound) p (c (a .treed .canonicals));
+    linked = best-linked m n 1 canonical ((λ e. omega arith), (λ e. omega arith)) (member-canonical m n a) (work-canonical m n a) (a .treed .canonical) (a .sound) p (c (a .treed .canonicals));
+    live = λ l. alive m n a canonical p f (best-linked m n 1 canonical ((λ e. omega arith), (λ e. omega arith)) (member-canonical m n a) (work-canonical m n a) (a .treed .canonical) (a .sound) p (c (a .treed .canonicals)) l);
   }

@@ -44,3 +44,9 @@ pub record Bests (w : Spine) (m : List ℕ) (n : ℕ) (r : ℕ) (y : Reply) : Ty
 pub record Tips (w : Spine) (m : List ℕ) (n p : ℕ) (r : ℕ) (y : Reply) : Type 0 where
   pub number-is : r ≡ 0
   pub reply-is : (p < n → isLinked (valuesOf m n w p) ≡ true) → (p < n → isLive (cellsOf m n p) ≡ true) → y ≡ tip (liveAt (viewAt m n .holdings) (placed n p)) (valueAt (valuesOf m n w) (placed n p))
+
+-- the best of a spine stands at p, a number from n on where there is none; where there is one, it is linked and live
+pub record Top (w : Spine) (m : List ℕ) (n p : ℕ) : Type 0 where
+  pub best-is : best (viewAt m n .holdings) (valuesOf m n w) ≡ placed n p
+  pub linked : p < n → isLinked (valuesOf m n w p) ≡ true
+  pub live : p < n → isLive (cellsOf m n p) ≡ true

@@ -9,7 +9,7 @@ ghost use Rattle.memory.specs.Layout.{Laid};
 ghost use Rattle.model.specs.Questions as questions;
 ghost use Rattle.model.specs.Questions.{bestQ, canonicalBestQ, canonicalCountQ, canonicalLinkedQ, linkedQ, liveAt, liveCountQ, parentQ, shown as shownBlock};
 ghost use Rattle.model.specs.Standing.{valueAt};
-ghost use Rattle.standing.specs.Values.{spineOf, valueMeans};
+ghost use Rattle.values.specs.Values.{spineOf, valueMeans};
 ghost use Rattle.state.specs.Sound.{placed};
 ghost use Rattle.state.specs.View.{valuesOf, viewAt};
 use block::Counted;
@@ -18,7 +18,7 @@ use block::Shown;
 use block::Tip;
 use block::Worth;
 use hash::Hash;
-use standing::Value;
+use values::Value;
 
 // What a question begins with: it is refused, or it is answered at this room.
 pub enum Begun {
@@ -118,9 +118,9 @@ fn value_at(mem: &[u64], n: usize, p: usize, canonical: bool) -> Value
         return Value::None;
     }
     if canonical {
-        return standing::read(mem, 64 + 68 * p + 60);
+        return values::read(mem, 64 + 68 * p + 60);
     }
-    standing::read(mem, 64 + 68 * p + 56)
+    values::read(mem, 64 + 68 * p + 56)
 }
 
 fn worth_in(mem: &[u64], n: usize, h: Hash, canonical: bool) -> Worth

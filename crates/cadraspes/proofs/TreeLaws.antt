@@ -19,10 +19,10 @@ use Rattle.model.specs.Questions.{TreeQuestion, shown, tip}
 use Rattle.model.specs.Record as model
 use Rattle.model.specs.Standing.{Value, unlinked, linked}
 use Rattle.tree.specs.Calls.{Keeps}
-use Rattle.cadraspes.specs.Told.{countOr, CountTold, shownIn, ShownTold}
-use Rattle.cadraspes.specs.ToldTree.{TreeCounts, TreeShows, worthIn, WorthTold, TreeWorths, tipShown, tipWorth, TipTold, TreeTips}
-use Rattle.cadraspes.proofs.ToldLaws.{refused-not-0}
-use Rattle.cadraspes.proofs.ShownLaws.{some-not-none}
+use Rattle.boundary.specs.Told.{countOr, CountTold, shownIn, ShownTold}
+use Rattle.boundary.specs.ToldTree.{TreeCounts, TreeShows, worthIn, WorthTold, TreeWorths, tipShown, tipWorth, TipTold, TreeTips}
+use Rattle.boundary.proofs.ToldLaws.{refused-not-0}
+use Rattle.boundary.proofs.ShownLaws.{some-not-none}
 
 pub syncs : {r r′ : ℕ} {m m′ : List ℕ} → r′ ≡ r → Keeps sync m m′ r → Keeps sync m m′ r′
 syncs {r} {r′} {m} {m′} e s = subst (Keeps sync m m′) (sym e) s

@@ -4,3 +4,5 @@ pub mod TakeLaws
 pub mod OrderLaws
 pub mod HandLaws
 pub mod Again
+pub mod Lending
+pub mod HandCall

@@ -1,4 +1,2 @@
 -- What the calls on the holdings promise.
-pub mod Calls
-pub mod Seats
 pub mod Asked

@@ -17,8 +17,8 @@ use Rattle.contest.specs.Keys.{enters}
 use Rattle.contest.proofs.KeyLaws.{enters-yes, enters-no}
 use Rattle.roster.specs.Roster.{memberAt, sizeAt}
 use Rattle.roster.specs.Writes.{Added, Dropped}
-use Rattle.standing.specs.Values.{Written}
-use Rattle.standing.specs.declared.Value.{Value}
+use Rattle.values.specs.Values.{Written}
+use Rattle.values.specs.declared.Value.{Value}
 use Rattle.state.proofs.SoundLaws.{laid-same}
 use Rattle.kin.specs.Kin.{linkedAt, upAt, kidsAt, Leaves, isListed, leafAt, kinOf, Lowered, Raised, Judged}
 

@@ -25,8 +25,8 @@ use Rattle.contest.proofs.Uses.{SameBut, again}
 use Rattle.roster.proofs.RosterLaws.{roster-same, roster-frame}
 use Rattle.state.proofs.RowSteps.{count-at}
 use Rattle.rows.specs.Rows.{valueOf}
-use Rattle.standing.specs.Values.{valueMeans}
-use Rattle.standing.specs.declared.Value.{Value}
+use Rattle.values.specs.Values.{valueMeans}
+use Rattle.values.specs.declared.Value.{Value}
 use Rattle.kin.specs.Relinked.{KinOnly, Relinked}
 use Rattle.kin.specs.Kin.{linkedAt, upAt, kidsAt, Leaves, isListed, leafAt, Kin, kinOf, Lowered, Raised, Judged}
 

@@ -8,8 +8,8 @@ use Rattle.memory.specs.Layout.{row, byHash, nodes, leavesAt, vacantAt}
 use Rattle.contest.specs.Tree.{WF}
 use Rattle.contest.specs.Contests as contest
 use Rattle.rows.specs.Rows.{valueOf}
-use Rattle.standing.specs.Values.{valueMeans}
-use Rattle.standing.specs.declared.Value.{Value}
+use Rattle.values.specs.Values.{valueMeans}
+use Rattle.values.specs.declared.Value.{Value}
 use Rattle.kin.specs.Kin.{upAt, Kin}
 
 -- the value of p and its parent's place, children and leaves, and the contest of linked ranks may change, nothing else

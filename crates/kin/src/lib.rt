@@ -5,7 +5,7 @@ ghost use Rattle.kin.specs.Kin.{Judged, Lowered, Raised, kinOf};
 ghost use Rattle.kin.specs.Relinked.{Relinked};
 ghost use Rattle.memory.specs.Layout.{Laid};
 ghost use mathlib.Core.Path.{_≡_};
-use standing::Value;
+use values::Value;
 
 // The place that p is a linked child of, or n.
 fn kin_of(mem: &[u64], n: usize, p: usize) -> usize
@@ -78,7 +78,7 @@ pub fn relink(mem: &mut [u64], n: usize, p: usize, q: usize, v: Value)
 {
     let was = kin_of(mem, n, p);
     lower(mem, n, was);
-    standing::write(mem, 64 + 68 * p + 56, v);
+    values::write(mem, 64 + 68 * p + 56, v);
     mem[64 + 68 * p + 67] = q as u64;
     let is = kin_of(mem, n, p);
     raise(mem, n, is);

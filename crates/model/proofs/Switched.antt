@@ -50,7 +50,7 @@ demote-flag : (r : _) (k : Copy) → changed (demote r) k .canonical ≡ false
 unfolding changed
 demote-flag r k = refl
 
-live-flag : (c : Cell) → isLive c ≡ true → copyOf c .canonical ≡ isCanonical c
+pub live-flag : (c : Cell) → isLive c ≡ true → copyOf c .canonical ≡ isCanonical c
 unfolding isLive isCanonical copyOf
 live-flag free e = no-both false e refl
 live-flag (held c) e = go (effective c) e

@@ -40,7 +40,7 @@ pub rebuild-done : (m m₁ m₂ : List ℕ) (n : ℕ) → Laid m n → Resets m 
 rebuild-done m m₁ m₂ n laid r a = record {
   only = tree-then m m₁ m₂ n (values-tree m m₁ n (r .only)) (pend-tree m₁ m₂ n laid₁ (a .only));
   values = pend-values m₁ m₂ n (pend-view m₁ m₂ n (a .only)) ∙ r .values;
-  treed = λ t. treed-frame m₁ m₂ n laid₁ (r .treed t) (pend-words m₁ m₂ n (r .treed t) (a .only));
+  treed = λ t. treed-frame m₁ m₂ n laid₁ (r .treed t) (pend-words m₁ m₂ n laid₁ (r .treed t) (a .only));
   pends = λ s p.
       pends-same m₂ n (λ q. false || isLive (cellsOf m₁ n q)) (λ q. isLive (cellsOf m n q)) (λ q h. ap (λ (f : ℕ → Cell). isLive (f q)) (tree-cells m m₁ n (values-tree m m₁ n (r .only))))
       (a .right (tree-sound m m₁ n (values-tree m m₁ n (r .only)) s) tt (λ q. false) (values-pends m m₁ n (λ q. false) laid (r .only) p));
@@ -95,7 +95,7 @@ module _ (m m′ : List ℕ) (n : ℕ) where
     right = λ s t p.
         let h = counted-list _ k (f s) in
         record {
-          treed = treed-frame m m′ n laid t (pend-words m m′ n t (a 0 [] .only));
+          treed = treed-frame m m′ n laid t (pend-words m m′ n laid t (a 0 [] .only));
           pend = λ q. changedIn (h .list) (cellsOf m n q);
           pends = a (word m 9) (h .list) .right s (h .is) (λ q. false) p;
           same = ap (λ (v : Values). settled (viewAt m n .holdings) v (λ q. changedIn (h .list) (cellsOf m n q))) (pend-values m m′ n (pend-view m m′ n (a 0 [] .only))) ∙ relinked-some m n (h .list) ∙ ap (relinked (viewAt m n .holdings) (valuesOf m n)) (sym (since e ∙ h .is));

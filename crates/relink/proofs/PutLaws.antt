@@ -18,8 +18,8 @@ use Rattle.contest.specs.Contests.{Updated}
 use Rattle.contest.proofs.Uses.{SameBut, again}
 use Rattle.rows.specs.Rows.{valueOf}
 use Rattle.state.proofs.SoundLaws.{laid-same}
-use Rattle.standing.specs.Values.{valueMeans, Written}
-use Rattle.standing.specs.declared.Value.{Value}
+use Rattle.values.specs.Values.{valueMeans, Written}
+use Rattle.values.specs.declared.Value.{Value}
 use Rattle.kin.specs.Relinked.{KinOnly, Relinked}
 use Rattle.relink.specs.Turned.{PutWinner, PutCanonical}
 

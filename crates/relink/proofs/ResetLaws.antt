@@ -27,6 +27,7 @@ use Rattle.kin.specs.Kin.{linkedAt, upAt, kidsAt}
 use Rattle.relink.specs.Treed.{Treed}
 use Rattle.relink.specs.Turned.{ValueOnly}
 use Rattle.relink.specs.Gathers.{Wiped, Resets}
+use Rattle.relink.proofs.TreedLaws.{listless-same}
 
 pub wiped-laid : (m m′ : List ℕ) (n : ℕ) → Laid m n → Wiped m m′ n → Laid m′ n
 wiped-laid m m′ n l w = laid-same m m′ n l (w .only 0 (λ q h e. omega arith) (λ q h e. omega arith) (λ q h e. omega arith)) (w .only 1 (λ q h e. omega arith) (λ q h e. omega arith) (λ q h e. omega arith)) (w .long)
@@ -76,13 +77,6 @@ module _ (m m₁ m₂ m₃ m₄ : List ℕ) (n : ℕ) (laid : Laid m n) (s₁ : 
   canonical-none : (z : List ℕ) (q : ℕ) → word z (row q + 60) ≡ 0 → enters z 1 q ≡ false
   canonical-none z q e = enters-no z 1 q e
 
-  list-words : Treed m n → Same n 4 m m₄
-  list-words t = record {
-    node = λ j h. passes (nodes n 4 + j) (λ x y. omega arith) (λ e. omega arith) (λ q h e. omega arith) (λ q h e. omega arith) (λ q h e. omega arith);
-    marks = λ q h. passes (row q + 63) (λ x y. omega arith) (λ e. omega arith) (λ q h e. omega arith) (λ q h e. omega arith) (λ q h e. omega arith);
-    keys = λ q h e. no-both true refl (sym e ∙ t .unlisted q h);
-  }
-
   treed : Treed m n → Treed m₄ n
   treed t =
       let f = laid .fits in
@@ -99,8 +93,11 @@ module _ (m m₁ m₂ m₃ m₄ : List ℕ) (n : ℕ) (laid : Laid m n) (s₁ : 
         linked = λ p h e. no-both true refl (sym e ∙ unlinked-all p h);
         canonical = λ p h e. no-both true refl (sym e ∙ canonical-none m₄ p (zero-at p 60 h (omega arith) (s₁ .canonical p h)));
         above = λ p h e. no-both true refl (sym e ∙ unlinked-all p h);
-        lists = still m m₄ n 4 (laid .few) (list-words t) (t .lists);
-        unlisted = λ q h. enters-kept m m₄ 4 q (list-words t .marks q h) ∙ t .unlisted q h;
+        listless =
+            listless-same m m₄ n laid
+            (λ q h. passes (row q + 63) (λ x y. omega arith) (λ e. omega arith) (λ q h e. omega arith) (λ q h e. omega arith) (λ q h e. omega arith))
+            (λ j h. passes (nodes n 4 + j) (λ x y. omega arith) (λ e. omega arith) (λ q h e. omega arith) (λ q h e. omega arith) (λ q h e. omega arith))
+            (t .listless);
       }
     where
       after : (a : ℕ) → (nodes n 0 ≤ a → a < nodes n 2 → ⊥) → word m₄ a ≡ word m₂ a

@@ -27,7 +27,7 @@ use Rattle.state.proofs.FindLaws.{used-is, cell-used}
 use Rattle.kin.specs.Kin.{linkedAt, upAt, kidsAt, isListed, leafAt, Leaves, Kin}
 use Rattle.pending.specs.Pending.{PendOnly}
 use Rattle.kin.proofs.RelinkLaws.{count-agree}
-use Rattle.relink.specs.Treed.{Above, Treed, TreedWords}
+use Rattle.relink.specs.Treed.{Above, Listless, Treed, TreedWords}
 
 -- to name, and an index, are of headers alone
 abbrev headNames : Header → Header → Bool
@@ -49,16 +49,16 @@ names-both (held c) (held d) e = (refl, refl)
 
 -- children and leaves are read off words 56, 64, 66 and 67 of rows and the roster of leaves
 module _ (m m′ : List ℕ) (n : ℕ) (size : word m′ 14 ≡ word m 14)
-    (rows : (q k : ℕ) → q < n → 56 ≤ k → k < 68 → (59 ≤ k → k < 64 → ⊥) → word m′ (row q + k) ≡ word m (row q + k))
+    (rows : (q k : ℕ) → q < n → 56 ≤ k → k < 68 → (59 ≤ k → k < 64 → ⊥) → (k ≡ 65 → ⊥) → word m′ (row q + k) ≡ word m (row q + k))
     (list : (a : ℕ) → leavesAt n ≤ a → a < vacantAt n → word m′ a ≡ word m a) where
   pub linked-same : (q : ℕ) → q < n → linkedAt m′ q ≡ linkedAt m q
-  linked-same q h = enters-kept m m′ 0 q (rows q 56 h (omega arith) (omega arith) (λ x y. omega arith))
+  linked-same q h = enters-kept m m′ 0 q (rows q 56 h (omega arith) (omega arith) (λ x y. omega arith) (λ e. omega arith))
 
   pub up-same : (q : ℕ) → q < n → upAt m′ q ≡ upAt m q
-  up-same q h = rows q 67 h (omega arith) (omega arith) (λ x y. omega arith)
+  up-same q h = rows q 67 h (omega arith) (omega arith) (λ x y. omega arith) (λ e. omega arith)
 
   kids-same : (q : ℕ) → q < n → kidsAt m′ q ≡ kidsAt m q
-  kids-same q h = rows q 64 h (omega arith) (omega arith) (λ x y. omega arith)
+  kids-same q h = rows q 64 h (omega arith) (omega arith) (λ x y. omega arith) (λ e. omega arith)
 
   pub kin-frame : Kin m n → Kin m′ n
   kin-frame k = record {
@@ -68,17 +68,24 @@ module _ (m m′ : List ℕ) (n : ℕ) (size : word m′ 14 ≡ word m 14)
   }
     where
       position : (q : ℕ) → q < n → word m′ (130 + 68 * q) ≡ word m (130 + 68 * q)
-      position q h = let z : 130 + 68 * q ≡ row q + 66 = omega arith in rw z (rows q 66 h (omega arith) (omega arith) (λ x y. omega arith))
+      position q h = let z : 130 + 68 * q ≡ row q + 66 = omega arith in rw z (rows q 66 h (omega arith) (omega arith) (λ x y. omega arith) (λ e. omega arith))
+
+-- the contest of listed leaves stays empty where its words are as they were
+pub listless-same : (m m′ : List ℕ) (n : ℕ) → Laid m n → ((q : ℕ) → q < n → word m′ (row q + 63) ≡ word m (row q + 63)) → ((j : ℕ) → j < n → word m′ (nodes n 4 + j) ≡ word m (nodes n 4 + j)) → Listless m n → Listless m′ n
+listless-same m m′ n laid marks node l = record {
+  tree = still m m′ n 4 (laid .few) (record { node = node; marks = marks; keys = λ q h e. no-both true refl (sym e ∙ l .none q h) }) (l .tree);
+  none = λ q h. enters-kept m m′ 4 q (marks q h) ∙ l .none q h;
+}
 
 module _ (m m′ : List ℕ) (n : ℕ) (laid : Laid m n) (t : Treed m n) (w : TreedWords m m′ n) where
   canonical-same : (q : ℕ) → q < n → enters m′ 1 q ≡ enters m 1 q
-  canonical-same q h = enters-kept m m′ 1 q (w .rows q 60 h (omega arith) (omega arith) (λ i. omega arith))
+  canonical-same q h = enters-kept m m′ 1 q (w .rows q 60 h (omega arith) (omega arith) (λ i. omega arith) (λ i. omega arith) (λ i. omega arith))
 
-  tail : (q k : ℕ) → q < n → 56 ≤ k → k < 68 → (59 ≤ k → k < 64 → ⊥) → word m′ (row q + k) ≡ word m (row q + k)
-  tail q k h x y z = w .rows q k h x y (λ e. z (omega arith) (omega arith))
+  tail : (q k : ℕ) → q < n → 56 ≤ k → k < 68 → (59 ≤ k → k < 64 → ⊥) → (k ≡ 65 → ⊥) → word m′ (row q + k) ≡ word m (row q + k)
+  tail q k h x y z v = w .rows q k h x y (λ e. z (omega arith) (omega arith)) (λ e. z (omega arith) (omega arith)) v
 
   list : (a : ℕ) → leavesAt n ≤ a → a < vacantAt n → word m′ a ≡ word m a
-  list a x y = w .leaves a (omega arith) y
+  list a x y = w .leaves a x y
 
   linked-kept : (q : ℕ) → q < n → linkedAt m′ q ≡ linkedAt m q
   linked-kept = linked-same m m′ n (w .size) tail list
@@ -99,8 +106,8 @@ module _ (m m′ : List ℕ) (n : ℕ) (laid : Laid m n) (t : Treed m n) (w : Tr
       hash = λ a i x y. w .headers q i h (in-use k l q h e) (omega arith) (omega arith);
       turn = λ a. absurd (omega arith);
       index = λ a b. w .headers q 12 h (in-use k l q h e) (omega arith) (omega arith);
-      winner = λ a b c i x y. w .rows q i h (omega arith) (omega arith) (λ z. omega arith);
-      canonical = λ a i x y. w .rows q i h (omega arith) (omega arith) (λ z. omega arith);
+      winner = λ a b c i x y. w .rows q i h (omega arith) (omega arith) (λ z. omega arith) (λ z. omega arith) (λ z. omega arith);
+      canonical = λ a i x y. w .rows q i h (omega arith) (omega arith) (λ z. omega arith) (λ z. omega arith) (λ z. omega arith);
     };
   }
     where
@@ -115,21 +122,14 @@ module _ (m m′ : List ℕ) (n : ℕ) (laid : Laid m n) (t : Treed m n) (w : Tr
       node-to (suc (suc k)) l j h = absurd (omega arith)
 
       marked : (k : ℕ) → k < 2 → (q : ℕ) → q < n → word m′ (row q + mark k) ≡ word m (row q + mark k)
-      marked zero l q h = w .rows q 56 h (omega arith) (omega arith) (λ i. omega arith)
-      marked (suc zero) l q h = w .rows q 60 h (omega arith) (omega arith) (λ i. omega arith)
+      marked zero l q h = w .rows q 56 h (omega arith) (omega arith) (λ i. omega arith) (λ i. omega arith) (λ i. omega arith)
+      marked (suc zero) l q h = w .rows q 60 h (omega arith) (omega arith) (λ i. omega arith) (λ i. omega arith) (λ i. omega arith)
       marked (suc (suc k)) l q h = absurd (omega arith)
 
       in-use : (k : ℕ) → k < 2 → (q : ℕ) → q < n → enters m k q ≡ true → Used m q
       in-use zero l q h e = t .linked q h e
       in-use (suc zero) l q h e = t .canonical q h e
       in-use (suc (suc k)) l q h e = absurd (omega arith)
-
-  list-words : Same n 4 m m′
-  list-words = record {
-    node = λ j h. w .leaves (nodes n 4 + j) (omega arith) (omega arith);
-    marks = λ q h. w .rows q 63 h (omega arith) (omega arith) (λ i. omega arith);
-    keys = λ q h e. no-both true refl (sym e ∙ t .unlisted q h);
-  }
 
   -- ---- parents ----
 
@@ -160,8 +160,7 @@ module _ (m m′ : List ℕ) (n : ℕ) (laid : Laid m n) (t : Treed m n) (w : Tr
     linked = λ p h e. w .linked p h (sym (linked-kept p h) ∙ e);
     canonical = λ p h e. w .canonical p h (sym (canonical-same p h) ∙ e);
     above = above-same;
-    lists = still m m′ n 4 (laid .few) list-words (t .lists);
-    unlisted = λ q h. enters-kept m m′ 4 q (w .rows q 63 h (omega arith) (omega arith) (λ i. omega arith)) ∙ t .unlisted q h;
+    listless = w .listless (t .listless);
   }
 
 -- the parent of a linked place has room
@@ -169,17 +168,18 @@ pub parent-used : (m : List ℕ) (n : ℕ) → Treed m n → (q : ℕ) → q < n
 parent-used m n t q h e l = cell-used m n (upAt m q) (names-both (cellsOf m n q) (cellsOf m n (upAt m q)) (t .above q h e .named l) .1) .1
 
 -- steps of the contest of turns leave all of it
-pub pend-words : (m m′ : List ℕ) (n : ℕ) → Treed m n → PendOnly m m′ n → TreedWords m m′ n
-pend-words m m′ n t o = record {
+pub pend-words : (m m′ : List ℕ) (n : ℕ) → Laid m n → Treed m n → PendOnly m m′ n → TreedWords m m′ n
+pend-words m m′ n laid t o = record {
   long = o .long;
   size = o .head 14 (omega arith);
-  rows = λ q k h x y z. o .rows q k h y (λ e. omega arith) z;
+  rows = λ q k h x y z u v. o .rows q k h y (λ e. omega arith) z;
   headers = λ q k h u x y. o .rows q k h (omega arith) (λ e. omega arith) (λ e. omega arith);
   ranks = λ a x y. o .before a (omega arith) y;
   leaves = λ a x y. o .after a (omega arith);
   linked = λ q h e. used q h (t .linked q h e);
   canonical = λ q h e. used q h (t .canonical q h e);
   parents = λ q h e l. used (upAt m q) l (parent-used m n t q h e l);
+  listless = listless-same m m′ n laid (λ q h. o .rows q 63 h (omega arith) (λ e. omega arith) (λ e. omega arith)) (λ j h. o .after (nodes n 4 + j) (omega arith));
 }
   where
     used : (q : ℕ) → q < n → Used m q → Used m′ q

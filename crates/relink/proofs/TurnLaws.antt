@@ -51,7 +51,7 @@ module _ (m m₁ m₂ : List ℕ) (n p : ℕ) (r : Bool) (laid : Laid m n) (p<n 
     view₁ = pend-view m m₁ n (d .only)
 
     done : Worked m₁ m₂ n p r
-    done = w .right (tree-sound m m₁ n tree₁ s) (treed-frame m m₁ n laid t (pend-words m m₁ n t (d .only))) (tree-used m m₁ n tree₁ p p<n ∙ used)
+    done = w .right (tree-sound m m₁ n tree₁ s) (treed-frame m m₁ n laid t (pend-words m m₁ n laid t (d .only))) (tree-used m m₁ n tree₁ p p<n ∙ used)
 
     values-view : (z : List ℕ) → viewAt z n .values ≡ valuesOf z n
     unfolding viewAt
@@ -102,7 +102,7 @@ module _ (m m₁ m₂ : List ℕ) (n p : ℕ) (r : Bool) (laid : Laid m n) (p<n 
     turn-moved e = record {
       only = tree-then m m₂ m₃ n tree₂ (pend-tree m₂ m₃ n turn-laid (f .only));
       right = λ s t pend pends now. record {
-        treed = treed-frame m₂ m₃ n turn-laid (done s t pend pends now .treed) (pend-words m₂ m₃ n (done s t pend pends now .treed) (f .only));
+        treed = treed-frame m₂ m₃ n turn-laid (done s t pend pends now .treed) (pend-words m₂ m₃ n turn-laid (done s t pend pends now .treed) (f .only));
         values = sym (values-view s t pend pends now m₃) ∙ ap (λ (x : State). x .values) (pend-view m₂ m₃ n (f .only)) ∙ values-view s t pend pends now m₂ ∙ values₂ s t pend pends now;
         pends = pends-same m₃ n _ (after (viewAt m n .holdings) (valuesOf m n) p pend) (same s t pend pends now)
             (f .right (tree-sound m m₂ n tree₂ s) (tree-used m m₂ n tree₂ p p<n ∙ used s t pend pends now) (λ q. pend q && not (eqb q p)) (pends₂ s t pend pends now));

@@ -34,13 +34,13 @@ use Rattle.state.proofs.FindLaws.{placed-in, placed-out}
 use Rattle.state.proofs.SoundLaws.{laid-same}
 use Rattle.state.proofs.ViewLaws.{below-same}
 use Rattle.state.proofs.TreeSteps.{tree-cells, tree-used}
-use Rattle.standing.specs.Values.{valueMeans, spineOf}
-use Rattle.standing.specs.declared.Value.{Value}
+use Rattle.values.specs.Values.{valueMeans, spineOf}
+use Rattle.values.specs.declared.Value.{Value}
 use Rattle.kin.specs.Kin.{linkedAt, upAt, Kin}
 use Rattle.kin.specs.Relinked.{KinOnly}
-use Rattle.relink.specs.Treed.{Above, Treed, TreedWords}
+use Rattle.relink.specs.Treed.{Above, Listless, Treed}
 use Rattle.relink.specs.Turned.{PutWinner, PutCanonical, ValueOnly, Worked, WorksOut}
-use Rattle.relink.proofs.TreedLaws.{linked-same, up-same, kin-frame}
+use Rattle.relink.proofs.TreedLaws.{linked-same, up-same, kin-frame, listless-same}
 
 -- ---- frames ----
 
@@ -135,12 +135,8 @@ module _ (m m′ : List ℕ) (n p q : ℕ) (v : Value) (r : Bool) (laid : Laid m
     };
   }
 
-  list-words : Same n 4 m m′
-  list-words = record {
-    node = λ j h. k .only .contests (nodes n 4 + j) (omega arith) (omega arith);
-    marks = λ x h. stays x 63 h (omega arith) (λ e. omega arith) (λ e. omega arith) (λ y z. omega arith) (λ e. omega arith);
-    keys = λ x h e. no-both true refl (sym e ∙ t .unlisted x h);
-  }
+  still-listless : Listless m′ n
+  still-listless = listless-same m m′ n laid (λ x h. stays x 63 h (omega arith) (λ e. omega arith) (λ e. omega arith) (λ y z. omega arith) (λ e. omega arith)) (λ j h. k .only .contests (nodes n 4 + j) (omega arith) (omega arith)) (t .listless)
 
   cells : (x : ℕ) → cellsOf m′ n x ≡ cellsOf m n x
   cells x = ap (λ (f : ℕ → Cell). f x) (tree-cells m m′ n tree)
@@ -174,8 +170,7 @@ module _ (m m′ : List ℕ) (n p q : ℕ) (v : Value) (r : Bool) (laid : Laid m
         linked = λ x h f. byBool (eqb x p) (λ i. let z : x ≡ p = eqb-true x p i in rw z (still-used p p<n used)) (λ i. still-used x h (t .linked x h (sym (linked-there x h (eqb-false x p i)) ∙ f)));
         canonical = λ x h f. still-used x h (t .canonical x h (sym (canonical-same x h) ∙ f));
         above = λ x h f. byBool (eqb x p) (λ i. let z : x ≡ p = eqb-true x p i in subst (Above m′ n) (sym z) (above-here e (subst (λ (y : ℕ). linkedAt m′ y ≡ true) z f))) (λ i. above-there x h (eqb-false x p i) f);
-        lists = still m m′ n 4 (laid .few) list-words (t .lists);
-        unlisted = λ x h. enters-kept m m′ 4 x (stays x 63 h (omega arith) (λ e. omega arith) (λ e. omega arith) (λ y z. omega arith) (λ e. omega arith)) ∙ t .unlisted x h;
+        listless = still-listless;
       }
 
 -- ---- the canonical linked value ----
@@ -184,8 +179,8 @@ module _ (m m′ : List ℕ) (n p : ℕ) (v : Value) (r : Bool) (laid : Laid m n
   in-row : (x i : ℕ) → x < n → i < 68 → (60 ≤ i → i < 63 → x ≡ p → ⊥) → word m′ (row x + i) ≡ word m (row x + i)
   in-row x i h l f = k .only (row x + i) (λ y z. f (omega arith) (omega arith) (omega arith)) (λ y z. omega arith)
 
-  tail : (x i : ℕ) → x < n → 56 ≤ i → i < 68 → (59 ≤ i → i < 64 → ⊥) → word m′ (row x + i) ≡ word m (row x + i)
-  tail x i h y z f = in-row x i h z (λ a b e. f (omega arith) (omega arith))
+  tail : (x i : ℕ) → x < n → 56 ≤ i → i < 68 → (59 ≤ i → i < 64 → ⊥) → (i ≡ 65 → ⊥) → word m′ (row x + i) ≡ word m (row x + i)
+  tail x i h y z f v = in-row x i h z (λ a b e. f (omega arith) (omega arith))
 
   size : word m′ 14 ≡ word m 14
   size = k .only 14 (λ y z. omega arith) (λ y z. omega arith)
@@ -212,13 +207,6 @@ module _ (m m′ : List ℕ) (n p : ℕ) (v : Value) (r : Bool) (laid : Laid m n
     };
   }
 
-  leaf-words : Same n 4 m m′
-  leaf-words = record {
-    node = λ j h. k .only (nodes n 4 + j) (λ y z. omega arith) (λ y z. omega arith);
-    marks = λ x h. in-row x 63 h (omega arith) (λ a b e. omega arith);
-    keys = λ x h e. no-both true refl (sym e ∙ t .unlisted x h);
-  }
-
   cells-still : (x : ℕ) → cellsOf m′ n x ≡ cellsOf m n x
   cells-still x = ap (λ (f : ℕ → Cell). f x) (tree-cells m m′ n (values-tree m m′ n (canonical-values m m′ n p v r p<n k)))
 
@@ -238,8 +226,7 @@ module _ (m m′ : List ℕ) (n p : ℕ) (v : Value) (r : Bool) (laid : Laid m n
           named = λ l. rw (u, cells-still x, cells-still (upAt m x)) (a .named (rw u at l));
           root = λ l. rw (cells-still x) (a .root (rw u at l));
         };
-    lists = still m m′ n 4 (laid .few) leaf-words (t .lists);
-    unlisted = λ x h. enters-kept m m′ 4 x (in-row x 63 h (omega arith) (λ a b e. omega arith)) ∙ t .unlisted x h;
+    listless = listless-same m m′ n laid (λ x h. in-row x 63 h (omega arith) (λ a b e. omega arith)) (λ j h. k .only (nodes n 4 + j) (λ y z. omega arith) (λ y z. omega arith)) (t .listless);
   }
 
 -- ---- where a linked place stands ----

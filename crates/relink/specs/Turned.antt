@@ -14,8 +14,8 @@ use Rattle.rows.specs.Rows.{valueOf}
 use Rattle.state.specs.View.{valuesOf, viewAt}
 use Rattle.state.specs.Sound.{Used, SoundAt}
 use Rattle.state.specs.TreeOnly.{TreeOnly}
-use Rattle.standing.specs.Values.{valueMeans}
-use Rattle.standing.specs.declared.Value.{Value}
+use Rattle.values.specs.Values.{valueMeans}
+use Rattle.values.specs.declared.Value.{Value}
 use Rattle.pending.specs.Pending.{Pends}
 use Rattle.kin.specs.Kin.{upAt, Kin}
 use Rattle.kin.specs.Relinked.{KinOnly}

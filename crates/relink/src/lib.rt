@@ -5,7 +5,7 @@ ghost use Rattle.memory.specs.Layout.{Laid};
 ghost use Rattle.relink.specs.Gathers.{Gathers, Rebuilds, Resets, Wiped};
 ghost use Rattle.relink.specs.Turned.{PutCanonical, PutWinner, Settles, Turned, WorksOut};
 use journal::Had;
-use standing::Value;
+use values::Value;
 
 // ---- a turn ----
 
@@ -14,8 +14,8 @@ fn put_winner(mem: &mut [u64], n: usize, p: usize, q: usize, v: Value) -> bool
     requires { ⌜ Laid (now mem) n × (p < n) ⌝ }
     ensures { λ r. ⌜ PutWinner (now (mem .entry)) (now (mem .exit)) n p q v r ⌝ }
 {
-    let old = standing::read(mem, 64 + 68 * p + 56);
-    if standing::same(old, v) {
+    let old = values::read(mem, 64 + 68 * p + 56);
+    if values::same(old, v) {
         return false;
     }
     kin::relink(mem, n, p, q, v);
@@ -27,11 +27,11 @@ fn put_canonical(mem: &mut [u64], n: usize, p: usize, v: Value) -> bool
     requires { ⌜ Laid (now mem) n × (p < n) ⌝ }
     ensures { λ r. ⌜ PutCanonical (now (mem .entry)) (now (mem .exit)) n p v r ⌝ }
 {
-    let old = standing::read(mem, 64 + 68 * p + 60);
-    if standing::same(old, v) {
+    let old = values::read(mem, 64 + 68 * p + 60);
+    if values::same(old, v) {
         return false;
     }
-    standing::write(mem, 64 + 68 * p + 60, v);
+    values::write(mem, 64 + 68 * p + 60, v);
     contest::update(mem, n, 1, p);
     true
 }

@@ -1,12 +1,16 @@
 // Answers (docs/HISTORY.md, "Calls and their answers"): a line that begins with document 01's number, a list's entries below it.
 use crate::blocks;
 use crate::lists;
+use crate::reasons;
 use crate::write;
 use amount::Amount;
 use amount::Reading;
+use block::Choice;
 use block::Counted;
 use block::Done;
 use block::Listed;
+use block::Outcome;
+use block::Planned;
 use block::Refusal;
 use block::Shown;
 use block::Tip;
@@ -16,10 +20,6 @@ use block::Worth;
 
 pub fn no_call() {
     write::out(b"? no call\n");
-}
-
-pub fn not_yet() {
-    write::out(b"? not yet\n");
 }
 
 pub fn too_long() {
@@ -126,6 +126,32 @@ pub fn reading(r: Reading) {
     write::out(b"0 ");
     write::reading(r);
     write::out(b"\n");
+}
+
+pub fn chosen(c: Choice) {
+    let outcome = c.outcome;
+    let reason = c.reason;
+    match outcome {
+        Outcome::Equal => write::out(b"0 equal "),
+        Outcome::KeepLocal => write::out(b"0 local "),
+        Outcome::AdoptPeer => write::out(b"0 remote "),
+    }
+    reasons::write(reason);
+    write::out(b"\n");
+}
+
+pub fn planned(x: Planned, entries: &[u64]) {
+    match x {
+        Planned::Scan => write::out(b"0 scan\n"),
+        Planned::Apply(changed, n) => {
+            write::out(b"0 apply ");
+            write::number(changed);
+            write::out(b" ");
+            number_alone(n as u64);
+            lists::entries(entries, n);
+        }
+        Planned::Refused(y) => refused(y),
+    }
 }
 
 pub fn listed(x: Listed, list: &[u8]) {

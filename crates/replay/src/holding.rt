@@ -55,14 +55,14 @@ pub fn load(line: &[u8], mem: &mut [u64]) {
     let Given::In(store, b) = blocks::read(line) else {
         return answers::no_call();
     };
-    answers::done(holdings::load(mem, store, b));
+    answers::done(arrivals::load(mem, store, b));
 }
 
 pub fn put(line: &[u8], mem: &mut [u64]) {
     let Given::In(store, b) = blocks::read(line) else {
         return answers::no_call();
     };
-    answers::done(holdings::put(mem, store, b));
+    answers::done(arrivals::put(mem, store, b));
 }
 
 pub fn remove(line: &[u8], mem: &mut [u64]) {

@@ -1,10 +1,12 @@
 // Replays a history (docs/HISTORY.md) on the library: calls on standard input, a line each, and their answers on standard output.
-// This file reads the lines and tells the calls apart; `holding`, `standing` and `questions` make the calls, `words`, `reasons` and
-// `blocks` read what stands in a line, `answers`, `lists` and `write` write.
+// This file reads the lines and tells the calls apart; `holding`, `standing`, `questions`, `comparing` and `planning` make the calls,
+// `words`, `reasons` and `blocks` read what stands in a line, `answers`, `lists` and `write` write.
 mod answers;
 mod blocks;
+mod comparing;
 mod holding;
 mod lists;
+mod planning;
 mod questions;
 mod reasons;
 mod standing;
@@ -27,15 +29,10 @@ const WORDS: usize = 364608;
 // each at most.
 const LIST: usize = 1457824;
 
-// ---- a line ----
+// The lent list of entries, in words: sixteen for each live block, and no start that the memory has room for takes more than 4,500 hashes.
+const ENTRIES: usize = 72000;
 
-// The calls that the library does not have yet.
-fn later(name: &[u8]) {
-    match words::place(name, b"select adopt choose") {
-        0..=2 => answers::not_yet(),
-        _ => answers::no_call(),
-    }
-}
+// ---- a line ----
 
 fn call(name: &[u8], line: &[u8], mem: &mut [u64]) {
     match words::place(name, b"reload load put remove answer sync") {
@@ -50,27 +47,35 @@ fn call(name: &[u8], line: &[u8], mem: &mut [u64]) {
 }
 
 // Answers a call, and gives the length that later lists are lent at.
-fn answer_call(line: &[u8], mem: &mut [u64], list: &mut [u8], lent: u64) -> u64 {
+fn answer_call(
+    line: &[u8],
+    mem: &mut [u64],
+    list: &mut [u8],
+    entries: &mut [u64],
+    lent: u64,
+) -> u64 {
     let name = words::word(line, 0);
-    match words::place(name, b"start lend changes leaves") {
+    match words::place(name, b"start lend changes leaves select adopt") {
         0 => return holding::start(line, mem, lent),
         1 => return holding::lend(line, mem, lent),
         2 => holding::changes(line, mem, list, lent),
         3 => standing::leaves(line, mem, list, lent),
+        4 => planning::select(line, mem, entries, lent),
+        5 => planning::adopt(line, mem, entries, lent),
         _ => call(name, line, mem),
     }
     lent
 }
 
 // An empty line and a remark answer nothing.
-fn answer(line: &[u8], mem: &mut [u64], list: &mut [u8], lent: u64) -> u64 {
+fn answer(line: &[u8], mem: &mut [u64], list: &mut [u8], entries: &mut [u64], lent: u64) -> u64 {
     if line.len() == 0 {
         return lent;
     }
     if line[0] == b'#' {
         return lent;
     }
-    answer_call(line, mem, list, lent)
+    answer_call(line, mem, list, entries, lent)
 }
 
 // ---- the lines of a text ----
@@ -82,7 +87,13 @@ struct Answered {
 }
 
 // Answers the lines that end in the text.
-fn answer_lines(text: &[u8], mem: &mut [u64], list: &mut [u8], lent: u64) -> Answered
+fn answer_lines(
+    text: &[u8],
+    mem: &mut [u64],
+    list: &mut [u8],
+    entries: &mut [u64],
+    lent: u64,
+) -> Answered
     ensures { λ r. ⌜ r .to ≤ length (now (text .entry)) ⌝ }
 {
     let mut to = 0;
@@ -92,7 +103,7 @@ fn answer_lines(text: &[u8], mem: &mut [u64], list: &mut [u8], lent: u64) -> Ans
         if end == text.len() {
             return Answered { to, lent: now };
         }
-        now = answer(&text[to..end], mem, list, now);
+        now = answer(&text[to..end], mem, list, entries, now);
         to = end + 1;
     }
     Answered { to, lent: now }
@@ -139,9 +150,9 @@ fn shift(text: &mut [u8], from: usize, to: usize) -> usize
 }
 
 // The last line needs no newline.
-fn end(text: &[u8], mem: &mut [u64], list: &mut [u8], left: Left) -> Left {
+fn end(text: &[u8], mem: &mut [u64], list: &mut [u8], entries: &mut [u64], left: Left) -> Left {
     if !left.long {
-        answer(text, mem, list, left.lent);
+        answer(text, mem, list, entries, left.lent);
     }
     Left {
         held: 0,
@@ -156,13 +167,14 @@ fn part(
     text: &mut [u8],
     mem: &mut [u64],
     list: &mut [u8],
+    entries: &mut [u64],
     lent: u64,
     from: usize,
     have: usize,
 ) -> Left
     requires { ⌜ (from ≤ have) × (have ≤ length (now text)) ⌝ }
 {
-    let answered = answer_lines(&text[from..have], mem, list, lent);
+    let answered = answer_lines(&text[from..have], mem, list, entries, lent);
     let to = from + answered.to;
     let held = shift(text, to, have);
     Left {
@@ -184,18 +196,31 @@ fn passing_over(lent: u64) -> Left {
 }
 
 // The same, of a line that was too long: what is left of it is passed over first.
-fn late_part(text: &mut [u8], mem: &mut [u64], list: &mut [u8], lent: u64, have: usize) -> Left
+fn late_part(
+    text: &mut [u8],
+    mem: &mut [u64],
+    list: &mut [u8],
+    entries: &mut [u64],
+    lent: u64,
+    have: usize,
+) -> Left
     requires { ⌜ have ≤ length (now text) ⌝ }
 {
     let from = bytes::scan::find(text, 0, have, b'\n');
     if from == have {
         return passing_over(lent);
     }
-    part(text, mem, list, lent, from + 1, have)
+    part(text, mem, list, entries, lent, from + 1, have)
 }
 
 // A line that does not fit the text is said to be too long, and the rest of it is passed over.
-fn turn(text: &mut [u8], mem: &mut [u64], list: &mut [u8], left: Left) -> Left {
+fn turn(
+    text: &mut [u8],
+    mem: &mut [u64],
+    list: &mut [u8],
+    entries: &mut [u64],
+    left: Left,
+) -> Left {
     let held = left.held;
     if text.len() <= held {
         answers::too_long();
@@ -204,16 +229,16 @@ fn turn(text: &mut [u8], mem: &mut [u64], list: &mut [u8], left: Left) -> Left {
     let to = part_end(held, text.len());
     let got = more(&mut text[held..to]);
     if got == 0 {
-        return end(&text[0..held], mem, list, left);
+        return end(&text[0..held], mem, list, entries, left);
     }
     if left.long {
-        return late_part(text, mem, list, left.lent, held + got);
+        return late_part(text, mem, list, entries, left.lent, held + got);
     }
-    part(text, mem, list, left.lent, 0, held + got)
+    part(text, mem, list, entries, left.lent, 0, held + got)
 }
 
 // A proved loop ends, and nothing says that an input does: the turns are counted down from a number that no run uses up.
-fn replay(text: &mut [u8], mem: &mut [u64], list: &mut [u8]) {
+fn replay(text: &mut [u8], mem: &mut [u64], list: &mut [u8], entries: &mut [u64]) {
     let mut left = Left {
         held: 0,
         lent: lists::WHOLE,
@@ -222,7 +247,7 @@ fn replay(text: &mut [u8], mem: &mut [u64], list: &mut [u8]) {
     };
     let mut turns = u64::MAX;
     while turns > 0 {
-        left = turn(text, mem, list, left);
+        left = turn(text, mem, list, entries, left);
         if left.ended {
             return;
         }
@@ -231,13 +256,19 @@ fn replay(text: &mut [u8], mem: &mut [u64], list: &mut [u8]) {
 }
 
 // (Arrays of a known length are made slices here, where nothing counts their elements.)
-fn replay_in(text: &mut [u8; TEXT], mem: &mut [u64; WORDS], list: &mut [u8; LIST]) {
-    replay(text, mem, list);
+fn replay_in(
+    text: &mut [u8; TEXT],
+    mem: &mut [u64; WORDS],
+    list: &mut [u8; LIST],
+    entries: &mut [u64; ENTRIES],
+) {
+    replay(text, mem, list, entries);
 }
 
 fn main() {
     let mut text = [0u8; TEXT];
     let mut mem = [0u64; WORDS];
     let mut list = [0u8; LIST];
-    replay_in(&mut text, &mut mem, &mut list);
+    let mut entries = [0u64; ENTRIES];
+    replay_in(&mut text, &mut mem, &mut list, &mut entries);
 }

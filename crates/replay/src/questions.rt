@@ -1,6 +1,7 @@
-// Questions that are a name alone, or a name and one word (docs/HISTORY.md, "Calls and their answers"): they ask the holdings or the
-// tree, and write no memory. They are told apart by their number of words first, so that this is tested once and not in each.
+// Questions that are a name alone, or a name and one word or six (docs/HISTORY.md, "Calls and their answers"): they ask the holdings, the
+// tree or nothing, and write no memory. They are told apart by their number of words first, so that this is tested once and not in each.
 use crate::answers;
+use crate::comparing;
 use crate::words;
 use crate::words::Hashed;
 use crate::words::Quoted;
@@ -14,7 +15,7 @@ fn alone(name: &[u8], mem: &[u64]) {
         4 => answers::counted(asking::canonical_count(mem)),
         5 => answers::tip(asking::best(mem)),
         6 => answers::tip(asking::canonical_best(mem)),
-        _ => crate::later(name),
+        _ => answers::no_call(),
     }
 }
 
@@ -28,7 +29,7 @@ fn of_hash(name: &[u8], word: &[u8], mem: &[u64]) {
         2 => answers::shown(asking::parent(mem, h)),
         3 => answers::worth(asking::linked(mem, h)),
         4 => answers::worth(asking::canonical_linked(mem, h)),
-        _ => crate::later(name),
+        _ => answers::no_call(),
     }
 }
 
@@ -50,10 +51,18 @@ fn of_word(name: &[u8], word: &[u8], mem: &[u64]) {
     of_hash(name, word, mem);
 }
 
+fn of_six(name: &[u8], line: &[u8], mem: &[u64]) {
+    if words::is(name, b"choose") {
+        return comparing::choose(line, mem);
+    }
+    answers::no_call();
+}
+
 pub fn question(name: &[u8], line: &[u8], mem: &[u64]) {
     match words::count(line, b' ') {
         1 => alone(name, mem),
         2 => of_word(name, words::word(line, 1), mem),
-        _ => crate::later(name),
+        7 => of_six(name, line, mem),
+        _ => answers::no_call(),
     }
 }

@@ -1,3 +1,2 @@
--- What the core of Select is asked with and answers, and what its steps make of the codes.
-pub mod Choosing
-pub mod Turned
+-- What the steps of Select's core make of the codes of places, and what its functions promise.
+pub mod Selected

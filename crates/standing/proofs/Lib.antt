@@ -1,4 +1,3 @@
 -- Laws of this crate; each function's own proof stands in a folder of its name.
-pub mod ValueLaws
 pub mod ParentLaws
 pub mod WorkLaws

@@ -1,20 +1,17 @@
 // The value of one place (document 01, "Standing in the tree"): parent, meets target, linked and canonical linked. The two linked values are one
 // rule over two spines; `canonical` says which is meant.
-ghost use mathlib.Core.Bool.{Bool·beq, _&&_};
+ghost use mathlib.Core.Bool.{_&&_};
 ghost use mathlib.Core.Path.{_≡_};
-ghost use Prim.Native.Nat.{suc, _+_, _≤_, _<_};
+ghost use Prim.Native.Nat.{suc, _+_, _<_};
 ghost use lib.Dec.{eqb, ltb, leb};
-ghost use lib.ListN.{length};
 ghost use Rattle.amount.specs.Choose.{_if_else_};
 ghost use Rattle.amount.specs.Value.{meant, value};
 ghost use Rattle.memory.specs.Layout.{Laid};
-ghost use Rattle.memory.specs.Words.{seg};
 ghost use Rattle.model.specs.Record.{Header as Headed};
-ghost use Rattle.model.specs.Relink.{same as sameValue, workOut};
+ghost use Rattle.model.specs.Relink.{workOut};
 ghost use Rattle.model.specs.Standing as model;
 ghost use Rattle.model.specs.Standing.{meetsTarget, onActual, onParent, parent as parentOf, valueAt};
-ghost use Rattle.rows.specs.Rows.{valueOf};
-ghost use Rattle.standing.specs.Values.{Written, spineOf, valueMeans};
+ghost use Rattle.values.specs.Values.{spineOf, valueMeans};
 ghost use Rattle.standing.specs.Work.{mayStand};
 ghost use Rattle.state.specs.Sound.{SoundAt, placed};
 ghost use Rattle.state.specs.View.{cellsOf, valuesOf, viewAt};
@@ -22,105 +19,11 @@ use amount::Amount;
 use amount::Order;
 use amount::Reading;
 use amount::Sum;
-
-// A linked value: none, or the work and whether the proofs are ok.
-pub enum Value {
-    None,
-    Linked(Amount, bool),
-}
+use values::Value;
 
 // ---- a value in three words: its kind (0 none, 1 linked, 2 proofs ok), two words of work ----
 
-// The value whose three words begin at `at`.
-pub fn read(mem: &[u64], at: usize) -> Value
-    requires { ⌜ at + 3 ≤ length (now mem) ⌝ }
-    ensures { λ r. ⌜ valueMeans r ≡ valueOf (seg (now (mem .entry)) at 3) ⌝ }
-{
-    let kind = mem[at];
-    if kind == 0 {
-        return Value::None;
-    }
-    let work = amount::from_words(mem[at + 1], mem[at + 2]);
-    Value::Linked(work, kind == 2)
-}
-
-fn kind_of(ok: bool) -> u64
-    ensures { λ r. ⌜ r ≡ (2 if ok else 1) ⌝ }
-{
-    if ok {
-        return 2;
-    }
-    1
-}
-
-pub fn write(mem: &mut [u64], at: usize, v: Value)
-    requires { ⌜ at + 3 ≤ length (now mem) ⌝ }
-    ensures { λ _. ⌜ Written (now (mem .entry)) (now (mem .exit)) at v ⌝ }
-{
-    match v {
-        Value::None => {
-            mem[at] = 0;
-            return;
-        }
-        Value::Linked(work, ok) => {
-            let words = amount::to_words(work);
-            mem[at] = kind_of(ok);
-            mem[at + 1] = words.first;
-            mem[at + 2] = words.second;
-            return;
-        }
-    }
-}
-
 // ---- whether a value changed ----
-
-fn alike(s: bool, t: bool) -> bool
-    ensures { λ r. ⌜ r ≡ Bool·beq s t ⌝ }
-{
-    if s {
-        return t;
-    }
-    !t
-}
-
-fn same_work(x: Amount, s: bool, y: Amount, t: bool) -> bool
-    ensures { λ r. ⌜ r ≡ (eqb (value x) (value y) && Bool·beq s t) ⌝ }
-{
-    match amount::compare(x, y) {
-        Order::Less => {
-            return false;
-        }
-        Order::Equal => {
-            return alike(s, t);
-        }
-        Order::Greater => {
-            return false;
-        }
-    }
-}
-
-pub fn same(a: Value, b: Value) -> bool
-    ensures { λ r. ⌜ r ≡ sameValue (valueMeans a) (valueMeans b) ⌝ }
-{
-    match a {
-        Value::None => match b {
-            Value::None => {
-                return true;
-            }
-            Value::Linked(_, _) => {
-                return false;
-            }
-        },
-        Value::Linked(x, s) => match b {
-            Value::None => {
-                return false;
-            }
-            Value::Linked(y, t) => {
-                return same_work(x, s, y, t);
-            }
-        },
-    }
-}
 
 // ---- parent ----
 
@@ -265,9 +168,9 @@ fn below_at(mem: &[u64], n: usize, q: usize, canonical: bool) -> Value
         return Value::None;
     }
     if canonical {
-        return read(mem, 64 + 68 * q + 60);
+        return values::read(mem, 64 + 68 * q + 60);
     }
-    read(mem, 64 + 68 * q + 56)
+    values::read(mem, 64 + 68 * q + 56)
 }
 
 // The value of the place p by the values that stand, where q is the place of its parent.

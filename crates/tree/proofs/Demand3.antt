@@ -1,5 +1,5 @@
--- The third demand, of the code. From a fresh start, after any accepted or refused loads, puts, removals, answers, reloads and syncs, if the last sync
--- covers the present, every question about the tree is answered as 01's rules give it for the records and answers now held, worked out from
+-- The third demand, of the code. From a fresh start, after any accepted or refused loads, puts, removals, answers, reloads and syncs, with questions and plans
+-- between them, if the last sync covers the present, every question about the tree is answered as 01's rules give it for the records and answers now held, worked out from
 -- nothing. A reader sees here: start (`begun`), any calls (`done`, `reloaded`, `synced`), a question (`AskedTree`), its answer.
 use mathlib.Core.Path.{_≡_, refl, sym, ap, _∙_, subst}
 use mathlib.Core.Bool.{Bool, true, false}
@@ -19,14 +19,17 @@ use Rattle.block.specs.declared.Listed.{Listed}
 use Rattle.memory.specs.Words.{word}
 use Rattle.state.specs.View.{view, viewAt}
 use Rattle.state.specs.Handing.{Hands}
-use Rattle.asking.specs.Whole.{Whole, WholeAt}
+use Rattle.asking.specs.Whole.{Whole, WholeAt, Stays}
 use Rattle.asking.specs.AskedTree.{AskedTree, Leaves}
 use Rattle.tree.specs.Calls.{Keeps}
-use Rattle.tree.specs.Lived.{Lived, begun, done, reloaded, synced, listed, given, InTime}
+use Rattle.tree.specs.Lived.{Lived, begun, done, reloaded, synced, stayed, given, InTime}
 use Rattle.tree.proofs.KeepLaws.{start-whole, reload-keeps, done-keeps}
 
 -- a list of leaves leaves the memory whole, and what it stands for
-module _ (m m′ : List ℕ) {list list′ : List ℕ} {x : Listed} (k : Leaves m m′ list list′ x) (w : Whole m) where
+pub leaves-stay : (m m′ list list′ : List ℕ) (x : Listed) → Leaves m m′ list list′ x → Stays m m′
+leaves-stay m m′ list list′ x k = record { whole = k .whole; view = k .view }
+
+module _ (m m′ : List ℕ) (k : Stays m m′) (w : Whole m) where
   at : WholeAt m′ (word m 0)
   at = k .whole w
 
@@ -45,7 +48,7 @@ whole (begun n j g v {m} {m′} s) = start-whole n j g v m m′ s
 whole (done c {m} {m′} {r} l k) = done-keeps c m m′ r k .right (whole l) .whole
 whole (reloaded g v {m} {m′} {r} l k) = reload-keeps g v m m′ r k .right (whole l) .whole
 whole (synced l k) = k .right (whole l) .whole
-whole (listed {m} {m′} l k) = at-room m m′ k (whole l)
+whole (stayed {m} {m′} l k) = at-room m m′ k (whole l)
 
 -- the state that it stands for, with the calls that led to it
 record Past (s : State) (new : New) (T : Type 0) : Type 0 where
@@ -69,7 +72,7 @@ past (begun n j g v s) = subst (λ (x : State). Past x (λ y. false) (Unit {0}))
 past (done c {m} {m′} {r} l k) = after c m m′ r (given l) (InTime l) (done-keeps c m m′ r k) (whole l) (past l)
 past (reloaded g v {m} {m′} {r} l k) = freely (view m′) _ (InTime l) (after (reload g v) m m′ r (given l) (InTime l) (reload-keeps g v m m′ r k) (whole l) (past l))
 past (synced {m} {m′} {r} l k) = freely (view m′) _ (InTime l) (after sync m m′ r (given l) (InTime l) k (whole l) (past l))
-past (listed {m} {m′} l k) = subst (λ (x : State). Past x (given l) (InTime l)) (sym (same-view m m′ k (whole l))) (past l)
+past (stayed {m} {m′} l k) = subst (λ (x : State). Past x (given l) (InTime l)) (sym (same-view m m′ k (whole l))) (past l)
 
 -- a question that is answered with no list
 abbrev pub NoList : TreeQuestion → Type 0

@@ -27,7 +27,7 @@ use Rattle.clearing.specs.Calls.{Starts, Reloads}
 use Rattle.pending.specs.Pending.{Pends}
 use Rattle.kin.specs.Kin.{linkedAt, upAt, kidsAt}
 use Rattle.relink.specs.Treed.{Treed, TreedWords}
-use Rattle.relink.proofs.TreedLaws.{treed-frame, parent-used}
+use Rattle.relink.proofs.TreedLaws.{treed-frame, parent-used, listless-same}
 use Rattle.asking.specs.Whole.{Whole, WholeAt}
 use Rattle.tree.specs.Calls.{Kept, Keeps}
 use Rattle.tree.proofs.SyncLaws.{idle-kept}
@@ -61,8 +61,7 @@ module _ (m : List ℕ) (n : ℕ) (b : Blank m n) where
     linked = λ p h e. no-both true refl (sym e ∙ unlinked-all p h);
     canonical = λ p h e. no-both true refl (sym e ∙ b .members 1 p (omega arith) (λ e. omega arith) h);
     above = λ p h e. no-both true refl (sym e ∙ unlinked-all p h);
-    lists = b .trees 4 (omega arith) (λ e. omega arith);
-    unlisted = λ q h. b .members 4 q (omega arith) (λ e. omega arith) h;
+    listless = record { tree = b .trees 4 (omega arith) (λ e. omega arith); none = λ q h. b .members 4 q (omega arith) (λ e. omega arith) h };
   }
 
   blank-idle : Pends m n (λ q. false)
@@ -118,17 +117,18 @@ unfolding viewAt
 room-is m n = refl
 
 module _ (m m′ : List ℕ) (n : ℕ) (a : Apart m m′ n) (t : Treed m n) where
-  apart-words : TreedWords m m′ n
-  apart-words = record {
+  apart-words : Laid m n → TreedWords m m′ n
+  apart-words laid = record {
     long = a .long;
     size = a .leafCount;
-    rows = λ q k h x y z. a .rows q k h x y;
+    rows = λ q k h x y z u v. a .rows q k h x y;
     headers = a .headers;
     ranks = λ i x y. a .contests i x (omega arith);
-    leaves = a .leaves;
+    leaves = λ i x y. a .leaves i (omega arith) y;
     linked = λ q h e. a .used q h (t .linked q h e);
     canonical = λ q h e. a .used q h (t .canonical q h e);
     parents = λ q h e l. a .used (upAt m q) l (parent-used m n t q h e l);
+    listless = listless-same m m′ n laid (λ q h. a .rows q 63 h (omega arith) (omega arith)) (λ j h. a .leaves (nodes n 4 + j) (omega arith) (omega arith));
   }
 
   apart-idle : Laid m n → Pends m n (λ q. false) → Pends m′ n (λ q. false)
@@ -147,7 +147,7 @@ done-keeps c m m′ r d = record {
         let a = d .apart (w .sound) in
         record {
           sound = k .sound;
-          treed = subst (Treed m′) (sym e) (treed-frame m m′ (word m 0) (w .sound .laid) (w .treed) (apart-words m m′ (word m 0) a (w .treed)));
+          treed = subst (Treed m′) (sym e) (treed-frame m m′ (word m 0) (w .sound .laid) (w .treed) (apart-words m m′ (word m 0) a (w .treed) (w .sound .laid)));
           idle = subst (λ (n : ℕ). Pends m′ n (λ q. false)) (sym e) (apart-idle m m′ (word m 0) a (w .treed) (w .sound .laid) (w .idle));
           run = subst Run (sym (k .state)) (call c (w .run));
         }

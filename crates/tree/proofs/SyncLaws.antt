@@ -40,7 +40,7 @@ use Rattle.pending.specs.Pending.{Pends}
 use Rattle.pending.proofs.NextLaws.{live-used}
 use Rattle.kin.specs.Kin.{linkedAt, upAt}
 use Rattle.relink.specs.Treed.{Treed, TreedWords}
-use Rattle.relink.proofs.TreedLaws.{treed-frame}
+use Rattle.relink.proofs.TreedLaws.{treed-frame, listless-same}
 use Rattle.relink.proofs.WorkLaws.{linked-is, canonical-is, root-linked}
 use Rattle.relink.specs.Gathers.{Gathered, Gathers}
 use Rattle.relink.specs.Turned.{Settled, Settles}
@@ -212,13 +212,14 @@ module _ (m m₁ m₂ m₃ m₄ : List ℕ) (n : ℕ) (g : Gathers m m₁ n) (t 
     words₄ = record {
       long = o .long ∙ r .only .long;
       size = o .only 14 (λ x y. omega arith) ∙ r .only .head 14 (omega arith) (λ e. omega arith);
-      rows = λ q k h x y z. row-late q k h (omega arith) y (λ e. omega arith);
+      rows = λ q k h x y z u v. row-late q k h (omega arith) y (λ e. omega arith);
       headers = λ q k h u x y. row-late q k h (omega arith) (omega arith) (λ e. omega arith);
       ranks = λ a x y. o .only a (λ b c. omega arith) ∙ r .only .contests a x (omega arith);
-      leaves = λ a x y. o .only a (λ b c. omega arith) ∙ r .only .leaves a x y;
+      leaves = λ a x y. o .only a (λ b c. omega arith) ∙ r .only .leaves a (omega arith) y;
       linked = λ q h e. live-used m₄ n q (live₄ winner q (winner-is q h e));
       canonical = λ q h e. live-used m₄ n q (live₄ canonical q (canonical-is₄ q h e));
       parents = parent₄;
+      listless = listless-same m₂ m₄ n (s₂ .laid) (λ q h. row-late q 63 h (omega arith) (omega arith) (λ e. omega arith)) (λ j h. o .only (nodes n 4 + j) (λ b c. omega arith) ∙ r .only .leaves (nodes n 4 + j) (omega arith) (omega arith));
     }
 
     whole₄ : WholeAt m₄ n

@@ -1,2 +1,3 @@
--- Walks that the plans read and note.
+-- What plans are asked with, and walks that they read and note.
+pub mod Asking
 pub mod Walked

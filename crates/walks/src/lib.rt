@@ -8,7 +8,49 @@ ghost use Rattle.model.specs.Walks as model;
 ghost use Rattle.model.specs.Walks.{Asked, walk};
 ghost use Rattle.state.specs.Sound.{SoundAt, Used, placed};
 ghost use Rattle.state.specs.View.{viewAt};
+ghost use Rattle.walks.specs.Asking.{floorMeans};
 ghost use Rattle.walks.specs.Walked.{LineOnly, Lined};
+
+// A floor that a plan may be given.
+pub enum Floor {
+    None,
+    At(u64),
+}
+
+// ---- the floor ----
+
+// Whether a floor is given and the index is at or below it.
+pub fn under(floor: Floor, index: u64) -> bool
+    ensures { λ r. ⌜ r ≡ model.under (floorMeans floor) index ⌝ }
+{
+    match floor {
+        Floor::None => {
+            return false;
+        }
+        Floor::At(f) => {
+            return index <= f;
+        }
+    }
+}
+
+// Whether a floor is given and the block is below both it and local.
+pub fn below(floor: Floor, index: u64, local: u64) -> bool
+    ensures { λ r. ⌜ r ≡ model.below (floorMeans floor) index local ⌝ }
+{
+    match floor {
+        Floor::None => {
+            return false;
+        }
+        Floor::At(f) => {
+            if index < f {
+                return index < local;
+            }
+            return false;
+        }
+    }
+}
+
+// ---- walks ----
 
 // The fork of two blocks, the highest common block of their walks; a number from n on where there is none. Steps down on the side that is higher,
 // on p's where they are level and differ. (Counted, so that it ends on any memory: two walks have no more than 2 * n blocks.)

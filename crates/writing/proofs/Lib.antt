@@ -3,3 +3,4 @@ pub mod CodeLaws
 pub mod FirstLaws
 pub mod ForgetLaws
 pub mod UserLaws
+pub mod ScratchLaws

@@ -3,3 +3,4 @@ pub mod Coded
 pub mod Steps
 pub mod Meant
 pub mod Planned
+pub mod Decides

@@ -1,11 +1,12 @@
 //! The library beside the original, on the same blocks in the same run: growth
-//! of a tree block by block, a first load with its rebuild, and a thousand
-//! blocks that wait for one parent. Rounds of the two take turns, and their
-//! best blocks must be the same.
+//! of a tree block by block, a first load with its rebuild, a thousand blocks
+//! that wait for one parent, and both plans over few and over many leaves.
+//! Rounds of the two take turns, and their best blocks and plans must be the
+//! same.
 use crate::hash;
-use cadraspes::boundary::{self, Record};
-use cadraspes::words::{copy_words, shown_of};
-use cadraspes::{room, Block, Hash, Marks};
+use cadraspes::boundary::{self, EntryWords, Record};
+use cadraspes::words::{copy_words, entry_of, shown_of};
+use cadraspes::{room, Block, Hash, Marks, Plan, Terms};
 use original::Timed;
 use std::time::Instant;
 
@@ -15,20 +16,35 @@ const GREATEST: usize = 32_768;
 /// Blocks put in a round of growth, and blocks that wait for one parent.
 const GROWTH: usize = 256;
 const WAITING: usize = 1_000;
+/// Plans of a round, and blocks that they find beyond the canonical ones.
+const PLANS: usize = 16;
+const BEYOND: usize = 64;
 /// The original's own journal room.
 const JOURNAL: u64 = 200_000;
 const ROUNDS: usize = 31;
+/// A plan changes nothing, and a round of sixteen after a first load is long.
+const PLAN_ROUNDS: usize = 5;
 
-/// A line of canonical blocks; every fourth block is a fork of one block that
-/// is not canonical.
-fn blocks(count: usize) -> Vec<Block<String>> {
+/// A line of canonical blocks, but for its last ones; now and then a fork of
+/// one block that is not canonical.
+#[derive(Clone, Copy)]
+struct Shape {
+    /// One block of so many is a fork, 4 or more.
+    every: usize,
+    /// So many blocks at the end are not canonical.
+    beyond: usize,
+}
+
+const FORKED: Shape = Shape { every: 4, beyond: 0 };
+
+fn blocks(count: usize, shape: Shape) -> Vec<Block<String>> {
     let mut all: Vec<Block<String>> = Vec::new();
     let mut line = 0;
     for at in 0..count {
-        let fork = at % 4 == 3;
+        let fork = at % shape.every == shape.every - 1;
         let parent = if fork { at - 2 } else { line };
         let (index, prev) = if at == 0 { (0, Hash([0; 32])) } else { (all[parent].index + 1, all[parent].hash) };
-        let marks = Marks { canonical: !fork, ..Marks::default() };
+        let marks = Marks { canonical: !fork && at + shape.beyond < count, ..Marks::default() };
         let (target, actual) = ("1000000".to_string(), format!("{}", 1_000_000 + 37 * at % 1_000));
         all.push(Block { hash: Hash(hash(at as u64)), index, epoch: 0, prev, target, actual, marks });
         line = if fork { line } else { at };
@@ -43,12 +59,14 @@ struct Library<'a> {
     blocks: &'a [Block<String>],
     copies: Vec<[u64; 12]>,
     memory: Vec<u64>,
+    list: Vec<EntryWords>,
 }
 
 impl Library<'_> {
     fn new(blocks: &[Block<String>]) -> Library<'_> {
         let copies = blocks.iter().map(|block| copy_words(&block.marks)).collect();
-        Library { blocks, copies, memory: vec![0; room(blocks.len() as u64, JOURNAL) as usize] }
+        let memory = vec![0; room(blocks.len() as u64, JOURNAL) as usize];
+        Library { blocks, copies, memory, list: vec![[0; 16]; blocks.len()] }
     }
 
     fn record(&self, at: usize) -> Record<'_> {
@@ -62,6 +80,12 @@ impl Library<'_> {
         let number = call(&mut memory, 0, &self.record(at));
         self.memory = memory;
         assert_eq!(number, 0);
+    }
+
+    fn decided(&mut self, adopt: bool, terms: &Terms) -> [u64; 3] {
+        let (decide, mut out) = (if adopt { boundary::adopt } else { boundary::select }, [0; 3]);
+        assert_eq!(decide(&mut self.memory, terms, &mut self.list, &mut out), 0);
+        out
     }
 }
 
@@ -91,6 +115,20 @@ impl Timed for Library<'_> {
         let (mut block, mut value) = ([0; 29], [0; 3]);
         assert_eq!(boundary::best(&self.memory, &mut block, &mut value), 0);
         shown_of(&block).map(|block| block.hash)
+    }
+
+    fn plan(&mut self, adopt: bool, terms: &Terms) -> u64 {
+        self.decided(adopt, terms)[1]
+    }
+
+    fn planned(&mut self, adopt: bool, terms: &Terms) -> Plan {
+        let [apply, changed, count] = self.decided(adopt, terms);
+        let entries = self.list[..count as usize].iter().map(entry_of).collect();
+        if apply == 1 {
+            Plan::Apply { changed, entries }
+        } else {
+            Plan::Scan
+        }
     }
 }
 
@@ -135,21 +173,41 @@ const WAIT: Round = |tree, held| {
     (time, 1)
 };
 
+/// Epochs so long that no fork is stale.
+const TERMS: Terms = Terms { floor: None, n: 1_000_000, clock: 7 };
+
+/// A plan after the first sync, asked again and again.
+fn plans(tree: &mut dyn Timed, held: usize, adopt: bool) -> (f64, usize) {
+    tree.start(held);
+    tree.sync();
+    let (from, mut changed) = (Instant::now(), 0);
+    (0..PLANS).for_each(|_| changed += tree.plan(adopt, &TERMS));
+    let time = from.elapsed().as_nanos() as f64;
+    assert_eq!(changed, PLANS as u64 * tree.plan(adopt, &TERMS), "a plan changes nothing");
+    (time, PLANS)
+}
+
+const SELECT: Round = |tree, held| plans(tree, held, false);
+const ADOPT: Round = |tree, held| plans(tree, held, true);
+
 /// Nanoseconds of the library and of the original, with room for what is held
 /// and what is put: the least of the rounds, since some are so long that other
 /// programs come between.
-fn times(held: usize, put: usize, round: Round) -> (f64, f64) {
-    let blocks = blocks(held + put);
+fn times(rounds: usize, held: usize, put: usize, shape: Shape, round: Round) -> (f64, f64) {
+    let blocks = blocks(held + put, shape);
     let mut library = Library::new(&blocks);
     let mut original = original::timed(&blocks).expect("at hand");
     let (mut ours, mut theirs) = (Vec::new(), Vec::new());
-    for _ in 0..ROUNDS {
+    for _ in 0..rounds {
         let each = |(time, count): (f64, usize)| time / count as f64;
         ours.push(each(round(&mut library, held)));
         original.forget();
         theirs.push(each(round(&mut *original, held)));
         assert_eq!(library.best(), original.best());
         assert_eq!(library.best_hash(), original.best_hash());
+        for adopt in [false, true] {
+            assert_eq!(library.planned(adopt, &TERMS), original.planned(adopt, &TERMS));
+        }
     }
     (least(&ours), least(&theirs))
 }
@@ -158,13 +216,20 @@ fn least(times: &[f64]) -> f64 {
     times.iter().copied().fold(f64::INFINITY, f64::min)
 }
 
-pub fn table() {
+fn heading() -> bool {
     if !original::at_hand() {
         eprintln!("the original's sources are not at hand: nothing is timed beside it");
-        return;
+        return false;
     }
     println!("| what | blocks held | library, ns | original, ns | original / library |");
     println!("|---|---:|---:|---:|---:|");
+    true
+}
+
+pub fn table() {
+    if !heading() {
+        return;
+    }
     let rows: [(&str, usize, Round); 3] = [
         ("put one block, sync, best", GROWTH, GROW),
         ("first load and sync, a block", 0, FIRST),
@@ -172,8 +237,30 @@ pub fn table() {
     ];
     for (what, put, round) in rows {
         for held in HELD.map(|held| held.min(GREATEST - put)) {
-            let (ours, theirs) = times(held, put, round);
-            println!("| {what} | {held} | {ours:.0} | {theirs:.0} | {:.1} |", theirs / ours);
+            row(what, held, times(ROUNDS, held, put, FORKED, round));
         }
     }
+}
+
+pub fn plan_table() {
+    if !heading() {
+        return;
+    }
+    let plans: [(&str, Round, usize); 4] = [
+        ("select, the line canonical", SELECT, 0),
+        ("select, its last 64 not", SELECT, BEYOND),
+        ("adopt, the line canonical", ADOPT, 0),
+        ("adopt, its last 64 not", ADOPT, BEYOND),
+    ];
+    for (what, round, beyond) in plans {
+        for (leaves, every) in [("few leaves", 1_000), ("a fourth are leaves", 4)] {
+            for held in HELD {
+                row(&format!("{what}; {leaves}"), held, times(PLAN_ROUNDS, held, 0, Shape { every, beyond }, round));
+            }
+        }
+    }
+}
+
+fn row(what: &str, held: usize, (ours, theirs): (f64, f64)) {
+    println!("| {what} | {held} | {ours:.0} | {theirs:.0} | {:.1} |", theirs / ours);
 }

@@ -138,6 +138,9 @@ fn main() {
         eprintln!("{}", cadraspes::NOT_LINKED);
         std::process::exit(1);
     }
+    if std::env::args().any(|word| word == "plans") {
+        return beside::plan_table();
+    }
     let memories = ROOMS.map(|hashes| {
         let filled = filled(hashes);
         let touched = touched(&filled, hashes - CALLS);
@@ -158,4 +161,6 @@ fn main() {
     println!("| memory, bytes | {} |", words.map(|words| (8 * words).to_string()).join(" | "));
     println!();
     beside::table();
+    println!();
+    beside::plan_table();
 }

@@ -3,6 +3,7 @@
 //! library: on any memory whatever a call ends, stays inside of what it was
 //! lent, and a refusal changes nothing.
 #![allow(unsafe_code)]
+use crate::Terms;
 
 /// What a block's copy takes: the twelve words of docs/MEMORY.md.
 pub type CopyWords = [u64; 12];
@@ -14,6 +15,22 @@ pub type ShownWords = [u64; 29];
 /// What a question for a linked value writes: 0 for none, 1, or 2 where proofs
 /// are ok; then the two words of work, the lower first.
 pub type ValueWords = [u64; 3];
+
+/// A side of a comparison: 1 and the two words of its work, the lower first,
+/// or 0 and two more where it is unknown; then its tip's index.
+pub type SideWords = [u64; 4];
+
+/// What a comparison writes: 0 equal, 1 keep local, 2 adopt peer; then the kind
+/// of the reason and its four words, as in a copy.
+pub type ChoiceWords = [u64; 6];
+
+/// An entry of a plan, as it lies in the list: the four words of its hash, the
+/// most significant first, and the twelve of a copy.
+pub type EntryWords = [u64; 16];
+
+/// What a plan writes beside its list: 0 scan or 1 apply, `changed`, and how
+/// many entries stand in the list.
+pub type PlannedWords = [u64; 3];
 
 /// True when the library was there to link.
 pub const fn linked() -> bool {
@@ -70,6 +87,18 @@ functions! {
     fn cadraspes_canonical_count(mem: *const u64, len: usize, out: &mut u64);
     fn cadraspes_live_count(mem: *const u64, len: usize, out: &mut u64);
     fn cadraspes_leaves(mem: *mut u64, len: usize, list: *mut u8, list_len: usize, out: &mut [u64; 2]);
+    fn cadraspes_select(
+        mem: *mut u64, len: usize, floor_given: u64, floor: u64, per_epoch: u64, clock: i64,
+        list: *mut EntryWords, entries: usize, out: &mut PlannedWords
+    );
+    fn cadraspes_adopt(
+        mem: *mut u64, len: usize, floor_given: u64, floor: u64, per_epoch: u64, clock: i64,
+        list: *mut EntryWords, entries: usize, out: &mut PlannedWords
+    );
+    fn cadraspes_choose(
+        local: &SideWords, local_hash: &[u8; 32], peer: &SideWords, peer_hash: &[u8; 32], out: &mut ChoiceWords
+    );
+    fn cadraspes_covers(index: u64, epoch: u64, per_epoch: u64);
     fn cadraspes_amount(text: *const u8, len: usize, out: &mut [u64; 3]);
 }
 
@@ -187,6 +216,36 @@ pub fn live_count(mem: &[u64], out: &mut u64) -> u64 {
 pub fn leaves(mem: &mut [u64], list: &mut [u8], out: &mut [u64; 2]) -> u64 {
     let (places, bytes) = (list.as_mut_ptr(), list.len());
     unsafe { cadraspes_leaves(mem.as_mut_ptr(), mem.len(), places, bytes, out) }
+}
+
+/// The list needs as many places as there are live blocks.
+pub fn select(mem: &mut [u64], terms: &Terms, list: &mut [EntryWords], out: &mut PlannedWords) -> u64 {
+    let (given, floor) = (u64::from(terms.floor.is_some()), terms.floor.unwrap_or(0));
+    let (places, entries) = (list.as_mut_ptr(), list.len());
+    unsafe { cadraspes_select(mem.as_mut_ptr(), mem.len(), given, floor, terms.n, terms.clock, places, entries, out) }
+}
+
+/// The list needs as many places as there are live blocks.
+pub fn adopt(mem: &mut [u64], terms: &Terms, list: &mut [EntryWords], out: &mut PlannedWords) -> u64 {
+    let (given, floor) = (u64::from(terms.floor.is_some()), terms.floor.unwrap_or(0));
+    let (places, entries) = (list.as_mut_ptr(), list.len());
+    unsafe { cadraspes_adopt(mem.as_mut_ptr(), mem.len(), given, floor, terms.n, terms.clock, places, entries, out) }
+}
+
+/// Two sides, each with its tip's hash.
+pub fn choose(
+    local: &SideWords,
+    local_hash: &[u8; 32],
+    peer: &SideWords,
+    peer_hash: &[u8; 32],
+    out: &mut ChoiceWords,
+) -> u64 {
+    unsafe { cadraspes_choose(local, local_hash, peer, peer_hash, out) }
+}
+
+/// Gives back 1 or 0, and no number of document 01.
+pub fn covers(index: u64, epoch: u64, per_epoch: u64) -> u64 {
+    unsafe { cadraspes_covers(index, epoch, per_epoch) }
 }
 
 /// Writes 1 and the two words of the value, the lower first, or three zeros

@@ -2,7 +2,7 @@
 //! calls, in memory that the tree owns. Document 01 says what each call does.
 //!
 //! ```
-//! use cadraspes::{Block, Hash, Marks, Refusal, Tree};
+//! use cadraspes::{Block, Hash, Marks, Plan, Refusal, Terms, Tree};
 //! # if !cadraspes::linked() { return Ok(()); }
 //!
 //! let mut tree = Tree::new(8, 16, 1, 0)?;
@@ -18,6 +18,44 @@
 //! tree.sync();
 //! let (tip, work) = tree.best()?.expect("one block is linked");
 //! assert_eq!((tip.hash, work.value, work.ok), (hash, 5, true));
+//!
+//! // No block is canonical, so a plan has nothing to compare the best with.
+//! assert_eq!(tree.select(&Terms { floor: None, n: 10, clock: 7 })?, Plan::Scan);
+//! # Ok::<(), Refusal>(())
+//! ```
+//!
+//! What a node does with it, after each batch of blocks (these lines stand in
+//! README.md, too; a test compares the two):
+//!
+//! ```
+//! # use cadraspes::{Block, Hash, Marks, Plan, Refusal, Terms, Tree};
+//! # use std::collections::BTreeMap;
+//! # if !cadraspes::linked() { return Ok(()); }
+//! # let block = |name: u8, index: u64, actual: &str, canonical: bool| {
+//! #     let (hash, prev) = (Hash([name; 32]), Hash([1; 32]));
+//! #     let (target, actual) = ("5".to_string(), actual.to_string());
+//! #     Block { hash, index, epoch: 0, prev, target, actual, marks: Marks { canonical, ..Marks::default() } }
+//! # };
+//! # let blocks = [block(1, 0, "5", true), block(2, 1, "5", true), block(3, 1, "6", false)];
+//! # let mut records: BTreeMap<Hash, Block<String>> = blocks.into_iter().map(|block| (block.hash, block)).collect();
+//! # fn scan(_: &BTreeMap<Hash, Block<String>>) { panic!("this tree can tell") }
+//! # let now = 7;
+//! let mut tree = Tree::new(1_000, 10_000, 1, 0)?; // room for hashes and journal entries; generation, version
+//! records.values().try_for_each(|block| tree.put(0, block))?; // into the active store, in any order
+//! tree.sync();
+//! println!("best: {:?}", tree.best()?);
+//! match tree.select(&Terms { floor: None, n: 10, clock: now })? {
+//!     Plan::Scan => scan(&records), // the tree cannot tell: the node looks through its records itself
+//!     Plan::Apply { entries, .. } => for entry in entries {
+//!         let block = records.get_mut(&entry.hash).expect("an entry is a block that was put");
+//!         block.marks = entry.marks; // both flags and the optional three, as they stand after the plan
+//!         tree.put(0, block)?; // the plan itself changed nothing
+//!     },
+//! }
+//! # assert_eq!(tree.select(&Terms { floor: None, n: 10, clock: now }), Err(Refusal::Stale));
+//! # tree.sync();
+//! # assert_eq!(tree.canonical_best()?.map(|(tip, work)| (tip.hash, work.value)), Some((Hash([3; 32]), 11)));
+//! # assert_eq!(tree.canonical_count()?, 2);
 //! # Ok::<(), Refusal>(())
 //! ```
 //!
@@ -25,13 +63,16 @@
 //! and every call panics.
 #![deny(unsafe_code)]
 pub mod boundary;
+mod comparison;
+pub mod draw;
 mod refusal;
 mod replay;
 mod tree;
 pub mod words;
 
 pub use boundary::{linked, NOT_LINKED};
-pub use history::{Amount, Block, Hash, Marks, Reason, Work};
+pub use comparison::{choose, covers};
+pub use history::{Amount, Block, Choice, Entry, Hash, Marks, Plan, Reason, Side, Terms, Work};
 pub use refusal::Refusal;
 pub use replay::Replay;
 pub use tree::{room, Tree};

@@ -1,6 +1,6 @@
 //! Whole histories on the library: its own refusals and answers.
-use crate::{room, Amount, Block, Hash, Refusal, Tree, Work};
-use history::{Answer, Call};
+use crate::{choose, room, Amount, Block, Entry, Hash, Marks, Plan, Reason, Refusal, Side, Tree, Work};
+use history::{read_line, Answer, Call, Line};
 
 /// A history played so far.
 #[derive(Default)]
@@ -14,54 +14,74 @@ pub struct Replay {
 const BEFORE: u64 = 0xa5a5_5a5a_dead_beef;
 
 impl Replay {
-    /// The library's answer; none for a call that it does not have.
-    pub fn call(&mut self, call: &Call) -> Option<Answer> {
-        if let Call::Start { hashes, journal, generation, version } = call {
-            return Some(refused(self.start(*hashes, *journal, *generation, *version)));
-        }
-        let Some(tree) = &mut self.tree else {
-            return Some(Answer::NoCall("no start was accepted yet".to_string()));
-        };
-        let done = |done: Result<(), Refusal>| done.map(|()| Answer::Done);
-        Some(refused(match call {
-            Call::Reload { generation, version } => done(tree.reload(*generation, *version)),
-            Call::Load(store, block) => done(tree.load(*store, block)),
-            Call::Put(store, block) => done(tree.put(*store, block)),
-            Call::Remove(store, hash) => done(tree.remove(*store, *hash)),
-            Call::Answer(hash, value) => done(tree.answer(*hash, *value)),
-            Call::Sync => {
-                tree.sync();
-                Ok(Answer::Done)
-            }
-            Call::Effective(hash) => Ok(block(tree.effective(*hash))),
-            Call::Count => Ok(Answer::Number(tree.count())),
-            Call::Generation => Ok(Answer::Number(tree.generation())),
-            Call::Version => Ok(Answer::Number(tree.version())),
-            Call::Changes { generation, version } => changes(tree, *generation, *version, self.lend),
-            Call::Node(hash) => tree.node(*hash).map(block),
-            Call::Parent(hash) => tree.parent(*hash).map(block),
-            Call::Linked(hash) => tree.linked(*hash).map(work),
-            Call::CanonicalLinked(hash) => tree.canonical_linked(*hash).map(work),
-            Call::Best => tree.best().map(tip),
-            Call::CanonicalBest => tree.canonical_best().map(tip),
-            Call::CanonicalCount => tree.canonical_count().map(Answer::Number),
-            Call::LiveCount => tree.live_count().map(Answer::Number),
-            Call::Leaves => leaves(tree, self.lend),
-            Call::Amount(text) => Ok(Answer::Amount(Tree::amount(text))),
-            Call::Lend(length) => {
-                self.lend = *length;
-                Ok(Answer::Done)
-            }
-            _ => return None,
-        }))
+    /// The tree, once a start was accepted.
+    pub fn tree(&mut self) -> Option<&mut Tree> {
+        self.tree.as_mut()
     }
 
-    fn start(&mut self, hashes: u64, journal: u64, generation: u64, version: u64) -> Result<Answer, Refusal> {
-        let words = if hashes <= 32_768 && journal <= 200_000 { room(hashes, journal) } else { 64 };
-        self.tree = Some(Tree::in_memory(vec![BEFORE; words as usize], hashes, journal, generation, version)?);
-        self.lend = None;
-        Ok(Answer::Done)
+    /// The answer to a line, given without its end; none if it is passed over.
+    pub fn line(&mut self, line: &[u8]) -> Option<Answer> {
+        match read_line(line) {
+            Line::Passed => None,
+            Line::NoCall(why) => Some(Answer::NoCall(why)),
+            Line::Call(call) => Some(self.call(&call)),
+        }
     }
+
+    /// The library's answer.
+    pub fn call(&mut self, call: &Call) -> Answer {
+        match (&mut self.tree, call) {
+            (Some(tree), _) => refused(play(tree, &mut self.lend, call)),
+            (None, Call::Start { hashes, journal, generation, version }) => {
+                let started = started(*hashes, *journal, *generation, *version);
+                refused(started.map(|tree| {
+                    self.tree = Some(tree);
+                    Answer::Done
+                }))
+            }
+            (None, _) => Answer::NoCall("no start was accepted yet".to_string()),
+        }
+    }
+}
+
+fn started(hashes: u64, journal: u64, generation: u64, version: u64) -> Result<Tree, Refusal> {
+    let words = if hashes <= 32_768 && journal <= 200_000 { room(hashes, journal) } else { 64 };
+    Tree::in_memory(vec![BEFORE; words as usize], hashes, journal, generation, version)
+}
+
+fn play(tree: &mut Tree, lend: &mut Option<u64>, call: &Call) -> Result<Answer, Refusal> {
+    match call {
+        Call::Start { hashes, journal, generation, version } => {
+            *tree = started(*hashes, *journal, *generation, *version)?;
+            *lend = None;
+        }
+        Call::Reload { generation, version } => tree.reload(*generation, *version)?,
+        Call::Load(store, block) => tree.load(*store, block)?,
+        Call::Put(store, block) => tree.put(*store, block)?,
+        Call::Remove(store, hash) => tree.remove(*store, *hash)?,
+        Call::Answer(hash, value) => tree.answer(*hash, *value)?,
+        Call::Sync => tree.sync(),
+        Call::Lend(length) => *lend = *length,
+        Call::Effective(hash) => return Ok(block(tree.effective(*hash))),
+        Call::Count => return Ok(Answer::Number(tree.count())),
+        Call::Generation => return Ok(Answer::Number(tree.generation())),
+        Call::Version => return Ok(Answer::Number(tree.version())),
+        Call::Changes { generation, version } => return changes(tree, *generation, *version, *lend),
+        Call::Node(hash) => return tree.node(*hash).map(block),
+        Call::Parent(hash) => return tree.parent(*hash).map(block),
+        Call::Linked(hash) => return tree.linked(*hash).map(work),
+        Call::CanonicalLinked(hash) => return tree.canonical_linked(*hash).map(work),
+        Call::Best => return tree.best().map(tip),
+        Call::CanonicalBest => return tree.canonical_best().map(tip),
+        Call::CanonicalCount => return tree.canonical_count().map(Answer::Number),
+        Call::LiveCount => return tree.live_count().map(Answer::Number),
+        Call::Leaves => return leaves(tree, *lend),
+        Call::Select(terms) => return plan(tree, *lend, |tree, list| tree.select_into(terms, list)),
+        Call::Adopt(terms) => return plan(tree, *lend, |tree, list| tree.adopt_into(terms, list)),
+        Call::Choose(local, remote) => return Ok(chosen(local, remote)),
+        Call::Amount(text) => return Ok(Answer::Amount(Tree::amount(text))),
+    }
+    Ok(Answer::Done)
 }
 
 fn refused(answer: Result<Answer, Refusal>) -> Answer {
@@ -80,29 +100,64 @@ fn tip(tip: Option<(Block<Amount>, Work)>) -> Answer {
     tip.map_or(Answer::None, |(block, work)| Answer::Tip(block.hash, work))
 }
 
+/// A text that is unreadable counts as unknown work.
+fn chosen(local: &Side<String>, remote: &Side<String>) -> Answer {
+    let read = |side: &Side<String>| Side {
+        work: side.work.as_deref().and_then(Tree::amount),
+        index: side.index,
+        hash: side.hash,
+    };
+    let (choice, reason) = choose(&read(local), &read(remote));
+    Answer::Chosen(choice, reason)
+}
+
 fn changes(tree: &Tree, generation: u64, version: u64, lend: Option<u64>) -> Result<Answer, Refusal> {
     let touches = tree.version().saturating_sub(version).min(200_000);
-    listed(lend, touches, |list| tree.changes_into(generation, version, list))
+    let ask = |list: &mut [Hash]| tree.changes_into(generation, version, list);
+    let (count, list) = with_list(lend, touches, UNTOUCHED, ask, |count| count.unwrap_or(0))?;
+    Ok(count.map_or(Answer::None, |_| Answer::Hashes(list)))
 }
 
 fn leaves(tree: &mut Tree, lend: Option<u64>) -> Result<Answer, Refusal> {
     let held = tree.count();
-    listed(lend, held, |list| tree.leaves_into(list).map(Some))
+    let (_, list) = with_list(lend, held, UNTOUCHED, |list| tree.leaves_into(list), |count| *count)?;
+    Ok(Answer::Hashes(list))
 }
 
-/// With a list of the length lent, and no longer than could be needed and one
-/// place more, which must stay as it was.
-fn listed(
+type Applied = Option<(u64, usize)>;
+
+fn plan(
+    tree: &mut Tree,
+    lend: Option<u64>,
+    ask: impl FnOnce(&mut Tree, &mut [Entry]) -> Result<Applied, Refusal>,
+) -> Result<Answer, Refusal> {
+    let held = tree.count();
+    let reason = Some(Reason::PeerTip(0xc3, 0xc3));
+    let marks = Marks { orphaned: true, canonical: true, time: Some(0xc3), reason, other: Some(UNTOUCHED) };
+    let place = Entry { hash: UNTOUCHED, marks };
+    let filled = |applied: &Applied| applied.map_or(0, |(_, count)| count);
+    let (applied, entries) = with_list(lend, held, place, |list| ask(tree, list), filled)?;
+    Ok(Answer::Plan(applied.map_or(Plan::Scan, |(changed, _)| Plan::Apply { changed, entries })))
+}
+
+/// A hash in a list before it is lent.
+const UNTOUCHED: Hash = Hash([0xc3; 32]);
+
+/// What is answered with a list of the length lent, and no longer than could be
+/// needed and one place more; and the places filled. All others must stay as
+/// they were, and all of them where the call is refused.
+fn with_list<T: Copy + PartialEq, A>(
     lend: Option<u64>,
     needed: u64,
-    ask: impl FnOnce(&mut [Hash]) -> Result<Option<usize>, Refusal>,
-) -> Result<Answer, Refusal> {
+    untouched: T,
+    ask: impl FnOnce(&mut [T]) -> Result<A, Refusal>,
+    filled: impl FnOnce(&A) -> usize,
+) -> Result<(A, Vec<T>), Refusal> {
     let length = lend.unwrap_or(u64::MAX).min(needed + 1);
-    let untouched = Hash([0xc3; 32]);
     let mut list = vec![untouched; length as usize];
-    let count = ask(&mut list);
-    let filled = count.map_or(0, |count| count.unwrap_or(0));
+    let answer = ask(&mut list);
+    let filled = answer.as_ref().map_or(0, filled);
     assert!(list[filled..].iter().all(|place| *place == untouched), "places past the answer's end stay as they were");
     list.truncate(filled);
-    Ok(count?.map_or(Answer::None, |_| Answer::Hashes(list)))
+    Ok((answer?, list))
 }

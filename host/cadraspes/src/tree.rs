@@ -1,7 +1,7 @@
 //! A tree that owns its memory.
-use crate::boundary::{self, Record, ShownWords, ValueWords};
-use crate::words::{copy_words, reading_of, shown_of, value_of};
-use crate::{Amount, Block, Hash, Refusal, Work};
+use crate::boundary::{self, EntryWords, PlannedWords, Record, ShownWords, ValueWords};
+use crate::words::{copy_words, entry_of, entry_words, reading_of, shown_of, value_of};
+use crate::{Amount, Block, Entry, Hash, Plan, Refusal, Terms, Work};
 
 /// How many words of memory some rooms need (docs/MEMORY.md).
 pub fn room(hashes: u64, journal: u64) -> u64 {
@@ -216,6 +216,78 @@ impl Tree {
         Ok(list)
     }
 
+    // The two plans. Each is refused with 12 STALE as the questions are. A plan
+    // changes nothing that the tree stands for: a host puts its entries.
+
+    /// Whether to stand on the best block. A [`Plan::Scan`] says that the tree
+    /// cannot tell; otherwise the entries, by index and then hash, are the
+    /// blocks that change, each with its marks as they stand after the plan.
+    ///
+    /// ```
+    /// use cadraspes::{Block, Entry, Hash, Marks, Plan, Refusal, Terms, Tree};
+    /// # if !cadraspes::linked() { return Ok(()); }
+    ///
+    /// let block = |name: u8, index: u64, canonical: bool| {
+    ///     let (hash, prev) = (Hash([name; 32]), Hash([name - 1; 32]));
+    ///     let (target, actual) = ("5".to_string(), "5".to_string());
+    ///     Block { hash, index, epoch: 0, prev, target, actual, marks: Marks { canonical, ..Marks::default() } }
+    /// };
+    /// let mut tree = Tree::new(8, 16, 1, 0)?;
+    /// tree.load(0, &block(1, 0, true))?;
+    /// tree.put(0, &block(2, 1, false))?;
+    /// tree.sync();
+    ///
+    /// let promoted = Entry { hash: Hash([2; 32]), marks: Marks { canonical: true, ..Marks::default() } };
+    /// let plan = Plan::Apply { changed: 1, entries: vec![promoted] };
+    /// let terms = Terms { floor: None, n: 10, clock: 7 };
+    /// assert_eq!(tree.select(&terms)?, plan);
+    /// assert_eq!(tree.adopt(&terms)?, plan);
+    /// # Ok::<(), Refusal>(())
+    /// ```
+    pub fn select(&mut self, terms: &Terms) -> Result<Plan, Refusal> {
+        self.planned(boundary::select, terms)
+    }
+
+    /// The same with a list that is lent, which must have a place for each live
+    /// block: entries go into its first places. Gives `changed` and how many;
+    /// none is [`Plan::Scan`].
+    pub fn select_into(&mut self, terms: &Terms, list: &mut [Entry]) -> Result<Option<(u64, usize)>, Refusal> {
+        self.planned_into(boundary::select, terms, list)
+    }
+
+    /// Whether to take a branch that grew beside the canonical line. As
+    /// [`Tree::select`] otherwise.
+    pub fn adopt(&mut self, terms: &Terms) -> Result<Plan, Refusal> {
+        self.planned(boundary::adopt, terms)
+    }
+
+    /// As [`Tree::select_into`].
+    pub fn adopt_into(&mut self, terms: &Terms, list: &mut [Entry]) -> Result<Option<(u64, usize)>, Refusal> {
+        self.planned_into(boundary::adopt, terms, list)
+    }
+
+    fn planned(&mut self, plan: Planner, terms: &Terms) -> Result<Plan, Refusal> {
+        let mut words = vec![[0; 16]; self.live_count()? as usize];
+        let mut out = [0; 3];
+        done(plan(&mut self.memory, terms, &mut words, &mut out))?;
+        let entries =
+            |(changed, count)| Plan::Apply { changed, entries: words[..count].iter().map(entry_of).collect() };
+        Ok(applied(&out).map_or(Plan::Scan, entries))
+    }
+
+    fn planned_into(
+        &mut self,
+        plan: Planner,
+        terms: &Terms,
+        list: &mut [Entry],
+    ) -> Result<Option<(u64, usize)>, Refusal> {
+        let mut words: Vec<EntryWords> = list.iter().map(entry_words).collect();
+        let mut out = [0; 3];
+        done(plan(&mut self.memory, terms, &mut words, &mut out))?;
+        list.iter_mut().zip(&words).for_each(|(place, words)| *place = entry_of(words));
+        Ok(applied(&out))
+    }
+
     /// The value of an amount text; none where it is unreadable.
     pub fn amount(text: &str) -> Amount {
         let mut out = [0; 3];
@@ -227,6 +299,13 @@ impl Tree {
     pub fn memory(&self) -> &[u64] {
         &self.memory
     }
+}
+
+type Planner = fn(&mut [u64], &Terms, &mut [EntryWords], &mut PlannedWords) -> u64;
+
+/// `changed` and how many entries; none for a scan.
+fn applied(out: &PlannedWords) -> Option<(u64, usize)> {
+    (out[0] == 1).then_some((out[1], out[2] as usize))
 }
 
 /// Places of a list out of 32 bytes each.

@@ -1,7 +1,8 @@
 //! Records as words (docs/MEMORY.md): the twelve of a copy, the twenty-nine
-//! that a question for a block writes, and the three of a linked value.
-use crate::boundary::{CopyWords, ShownWords, ValueWords};
-use crate::{Amount, Block, Hash, Marks, Reason, Work};
+//! that a question for a block writes, the three of a linked value, those of a
+//! comparison, and the sixteen of a plan's entry.
+use crate::boundary::{ChoiceWords, CopyWords, EntryWords, ShownWords, SideWords, ValueWords};
+use crate::{Amount, Block, Choice, Entry, Hash, Marks, Reason, Side, Work};
 
 /// Four words of a hash, the most significant first.
 fn hash_words(hash: Hash) -> [u64; 4] {
@@ -134,4 +135,33 @@ pub fn shown_of(words: &ShownWords) -> Option<Block<Amount>> {
         actual: reading_of(header[11], &header[14..16]),
         marks: copy_of(&words[17..]),
     })
+}
+
+/// The words of a side; its hash crosses as bytes.
+pub fn side_words(side: &Side<u128>) -> SideWords {
+    let [low, high] = amount_words(side.work.unwrap_or(0));
+    [u64::from(side.work.is_some()), low, high, side.index]
+}
+
+/// What the words mean that a comparison wrote.
+pub fn choice_of(words: &ChoiceWords) -> (Choice, Reason) {
+    let choice = match words[0] {
+        0 => Choice::Equal,
+        1 => Choice::Local,
+        _ => Choice::Remote,
+    };
+    (choice, reason_of(words[1], &words[2..]).expect("a comparison has a reason"))
+}
+
+/// The sixteen words of an entry.
+pub fn entry_words(entry: &Entry) -> EntryWords {
+    let mut words = [0; 16];
+    words[..4].copy_from_slice(&hash_words(entry.hash));
+    words[4..].copy_from_slice(&copy_words(&entry.marks));
+    words
+}
+
+/// What sixteen words of an entry mean.
+pub fn entry_of(words: &EntryWords) -> Entry {
+    Entry { hash: hash_of(&words[..4]), marks: copy_of(&words[4..]) }
 }

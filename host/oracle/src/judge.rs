@@ -246,7 +246,7 @@ fn ask_original(original: &dyn Ask, call: &Call, first: u64) -> Option<Answer> {
 
 /// Floors and epochs' lengths for the sweep: both ends, and some in between
 /// that turn with the line.
-fn sweep_terms(turn: u64) -> Vec<Terms> {
+pub fn sweep_terms(turn: u64) -> Vec<Terms> {
     let ends = [(None, 0), (None, 2), (Some(0), 1), (Some(2), 2), (Some(u64::MAX), 10), (Some(4), u64::MAX)];
     let turning = [(Some(turn % 7), turn % 5), (None, turn % 11)];
     let terms = |(floor, n)| Terms { floor, n, clock: -7 };

@@ -1,26 +1,34 @@
 //! The library against the original and the reading of document 01: a history
-//! on all three, answer by answer, refusals too. Calls that the library lacks
-//! are passed over; none of them changes anything.
+//! on all three, answer by answer, refusals too.
 use crate::generate::generate;
-use crate::judge::Judge;
+use crate::judge::{sweep_terms, Judge};
 use crate::shrink::shrink;
 use cadraspes::Replay;
-use history::{lines, read_line, Answer, Call, Hash, Line};
+use history::{lines, read_line, Answer, Ask, Call, Hash, Line};
 use std::collections::{BTreeMap, BTreeSet};
 
-/// Answers calls; none for a call that it lacks.
-pub type Player = Box<dyn FnMut(&Call) -> Option<Answer>>;
+/// Whether a tip of this index and epoch covers, with so many blocks to an epoch.
+pub type Covers = fn(u64, u64, u64) -> bool;
+
+pub type Answers = Box<dyn FnMut(&Call) -> Answer>;
+
+/// What is compared.
+pub struct Player {
+    pub call: Answers,
+    /// No call of a history, so it stands apart.
+    pub covers: Covers,
+}
 
 pub fn library() -> Player {
     let mut replay = Replay::default();
-    Box::new(move |call| replay.call(call))
+    Player { call: Box::new(move |call| replay.call(call)), covers: cadraspes::covers }
 }
 
-/// A line of a history with the player's answer; none where it lacks the call.
+/// A line of a history with the player's answer.
 pub struct Given {
     line: usize,
     call: String,
-    pub answer: Option<Answer>,
+    pub answer: Answer,
 }
 
 /// What a player answers to a history.
@@ -29,23 +37,22 @@ pub fn given(history: &[u8], mut player: Player) -> Vec<Given> {
     for (text, line) in lines(history).zip(1..) {
         let answer = match read_line(text) {
             Line::Passed => continue,
-            Line::NoCall(why) => Some(Answer::NoCall(why)),
-            Line::Call(call) => player(&call),
+            Line::NoCall(why) => Answer::NoCall(why),
+            Line::Call(call) => (player.call)(&call),
         };
         all.push(Given { line, call: String::from_utf8_lossy(text).into_owned(), answer });
     }
     all
 }
 
-/// The library's answers as a text; `?` for calls that it lacks.
+/// The library's answers as a text.
 pub fn answers(history: &[u8]) -> String {
-    let lacking = || Answer::NoCall("the library does not have this call".to_string());
-    given(history, library()).into_iter().map(|one| format!("{}\n", one.answer.unwrap_or_else(lacking))).collect()
+    given(history, library()).into_iter().map(|one| format!("{}\n", one.answer)).collect()
 }
 
 /// How a player's answer differs from the one expected; none if it does not.
 pub fn differs(given: &Given, expected: &str) -> Option<String> {
-    let answer = given.answer.as_ref()?.to_string();
+    let answer = given.answer.to_string();
     let same = answer == expected || (answer.starts_with('?') && expected.starts_with('?'));
     let told = |answer: &str| answer.replace('\n', "\n# ");
     let (line, call, ours, theirs) = (given.line, &given.call, told(&answer), told(expected));
@@ -84,9 +91,14 @@ impl Against {
         against
     }
 
-    /// All questions, for every hash named so far.
+    /// All questions, for every hash named so far, and between them a sweep of
+    /// plans, which write words of the memory that no question may see.
     fn sweep(&mut self) {
         self.syncs += 1;
+        for terms in sweep_terms(self.judge.line as u64) {
+            self.ask(&Call::Select(terms));
+            self.ask(&Call::Adopt(terms));
+        }
         let whole = [Call::Best, Call::CanonicalBest, Call::CanonicalCount, Call::LiveCount, Call::Leaves];
         let holdings = [Call::Count, Call::Generation, Call::Version];
         whole.iter().chain(&holdings).for_each(|call| self.ask(call));
@@ -94,11 +106,30 @@ impl Against {
             let each = [Call::Node, Call::Parent, Call::Linked, Call::CanonicalLinked, Call::Effective];
             each.iter().for_each(|question| self.ask(&question(hash)));
         }
+        self.covering();
+    }
+
+    /// Covering for every block held, with epochs of several lengths. (The
+    /// original's own is private: it shows in its plans alone.)
+    fn covering(&mut self) {
+        let line = self.judge.line;
+        let Some(reading) = self.judge.watched.reading() else { return };
+        let blocks = self.known.iter().filter_map(|hash| reading.effective(*hash));
+        let asked = blocks.flat_map(|block| [0, 1, 2, 10, line as u64 % 7, u64::MAX].map(|n| (block, n)));
+        let wrong = asked.into_iter().find_map(|(block, n)| {
+            let ours = (self.player.covers)(block.index, block.epoch, n);
+            (ours != reading::covers(&block, n)).then_some((block.index, block.epoch, n, ours))
+        });
+        if let (None, Some((index, epoch, n, ours))) = (&self.difference, wrong) {
+            let (ours, theirs) = (u8::from(ours), u8::from(!ours));
+            let told = format!("#   the library: {ours}\n#   expected:    {theirs}\n");
+            self.difference = Some(format!("# line {line}: covers {index} {epoch} {n}\n{told}"));
+        }
     }
 
     /// The original and the reading must agree, and the player with them.
     fn ask(&mut self, call: &Call) {
-        let Some(answer) = (self.player)(call) else { return };
+        let answer = (self.player.call)(call);
         let expected = self.judge.call(call);
         let same = answer == expected || matches!((&answer, &expected), (Answer::NoCall(_), Answer::NoCall(_)));
         self.answers.push(answer.clone());
@@ -106,7 +137,7 @@ impl Against {
         if self.difference.is_none() && !self.judge.differences.is_empty() {
             self.difference = Some(format!("# line {line}: {call}: the original is not as read\n"));
         } else if self.difference.is_none() && !same {
-            let given = Given { line, call: call.to_string(), answer: Some(answer) };
+            let given = Given { line, call: call.to_string(), answer };
             self.difference = differs(&given, &expected.to_string());
         }
     }

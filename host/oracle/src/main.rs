@@ -79,7 +79,7 @@ fn run(sweep: bool) -> bool {
     print_all(&answers) && tell(&judge, &answered)
 }
 
-/// The library's answers, `?` for calls that it lacks.
+/// The library's answers.
 fn run_library() -> bool {
     if !cadraspes::linked() {
         eprintln!("{}", cadraspes::NOT_LINKED);

@@ -56,6 +56,10 @@ pub trait Timed {
     /// The work of the best block.
     fn best(&self) -> u128;
     fn best_hash(&self) -> Option<history::Hash>;
+    /// A plan, select or adopt; gives its `changed` alone, 0 for a scan.
+    fn plan(&mut self, adopt: bool, terms: &history::Terms) -> u64;
+    /// The same plan whole, which is not timed.
+    fn planned(&mut self, adopt: bool, terms: &history::Terms) -> history::Plan;
 }
 
 /// None where the sources are not at hand.

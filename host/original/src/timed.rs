@@ -1,9 +1,10 @@
 //! The original's own calls, to be timed: blocks are made its own beforehand,
 //! so that nothing but its work is measured.
-use crate::convert::{hash, kind, to_original};
+use crate::chain::tree_choice::{plan_adopt, plan_select, Plan};
+use crate::convert::{hash, kind, plan, to_original};
 use crate::models::miner::{Eligibility, MinerBlock, MinerBlockCache, MinerTree};
 use crate::Timed;
-use history::{Block, Hash};
+use history::{Block, Hash, Terms};
 use std::collections::BTreeMap;
 use std::sync::Arc;
 
@@ -21,6 +22,14 @@ impl Run {
     pub fn new(blocks: &[Block<String>]) -> Run {
         let blocks = blocks.iter().map(to_original).map(Arc::new).collect();
         Run { blocks, cache: empty(), tree: MinerTree::default() }
+    }
+}
+
+impl Run {
+    fn decided(&self, adopt: bool, terms: &Terms) -> Plan {
+        shims::set_clock(terms.clock);
+        let decide = if adopt { plan_adopt } else { plan_select };
+        decide(&self.tree, terms.floor, terms.n)
     }
 }
 
@@ -49,5 +58,17 @@ impl Timed for Run {
 
     fn best_hash(&self) -> Option<Hash> {
         self.tree.best().map(|(block, _)| hash(&block.hash))
+    }
+
+    /// Its writes are dropped, as they would be once applied.
+    fn plan(&mut self, adopt: bool, terms: &Terms) -> u64 {
+        match self.decided(adopt, terms) {
+            Plan::Apply { changed, .. } => changed as u64,
+            Plan::Scan => 0,
+        }
+    }
+
+    fn planned(&mut self, adopt: bool, terms: &Terms) -> history::Plan {
+        plan(self.decided(adopt, terms))
     }
 }

@@ -4,7 +4,7 @@ use denote.Ref.{now}
 use Rattle.model.specs.Standing.{valueAt}
 use Rattle.model.specs.Questions.{shown, liveAt}
 use Rattle.block.specs.Answers.{shownReply}
-use Rattle.standing.specs.Values.{spineOf, valueMeans}
+use Rattle.values.specs.Values.{spineOf, valueMeans}
 use Rattle.state.specs.View.{valuesOf, viewAt}
 use Rattle.state.specs.Sound.{placed}
 use Rattle.asking.proofs.BestLaws.{tip-unlinked, tip-unshown, tip-shown}

@@ -1,7 +1,7 @@
 -- `asking::value_at` meets its contract.
 use mathlib.Core.Path.{_∙_}
 use denote.Ref.{now}
-use Rattle.standing.specs.Values.{spineOf}
+use Rattle.values.specs.Values.{spineOf}
 use Rattle.standing.proofs.WorkLaws.{below-none, below-winner, below-canonical}
 use borrow.Author.Needs.{needs}
 use Rattle.asking.proofs.value_at.Statement.{statement}

@@ -2,7 +2,7 @@
 use mathlib.Core.Path.{_≡_, subst}
 use denote.Ref.{now}
 use Rattle.model.specs.Standing.{valueAt}
-use Rattle.standing.specs.Values.{spineOf, valueMeans}
+use Rattle.values.specs.Values.{spineOf, valueMeans}
 use Rattle.state.specs.View.{valuesOf}
 use Rattle.state.specs.Sound.{placed}
 use Rattle.asking.proofs.TreeAskLaws.{worths}

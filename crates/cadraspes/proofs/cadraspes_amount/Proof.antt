@@ -1,8 +1,8 @@
 -- `cadraspes::cadraspes_amount` meets its contract.
 use mathlib.Core.Path.{refl, subst}
-use Rattle.cadraspes.specs.Told.{AmountTold}
+use Rattle.boundary.specs.Told.{AmountTold}
 use borrow.Author.Needs.{needs}
-use Rattle.cadraspes.proofs.ToldLaws.{of-reading}
+use Rattle.boundary.proofs.ToldLaws.{of-reading}
 use Rattle.cadraspes.proofs.cadraspes_amount.Statement.{statement}
 use Rattle.cadraspes.proofs.cadraspes_amount.Tie as tie
 

@@ -1,5 +1,5 @@
 -- `cadraspes::cadraspes_effective` meets its contract.
-use Rattle.cadraspes.proofs.ShownLaws.{shows}
+use Rattle.boundary.proofs.ShownLaws.{shows}
 use borrow.Author.Needs.{needs}
 use Rattle.cadraspes.proofs.cadraspes_effective.Statement.{statement}
 use Rattle.cadraspes.proofs.cadraspes_effective.Tie as tie

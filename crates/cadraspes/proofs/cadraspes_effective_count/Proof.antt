@@ -1,5 +1,5 @@
 -- `cadraspes::cadraspes_effective_count` meets its contract.
-use Rattle.cadraspes.proofs.ToldLaws.{tells-count}
+use Rattle.boundary.proofs.ToldLaws.{tells-count}
 use borrow.Author.Needs.{needs}
 use Rattle.cadraspes.proofs.cadraspes_effective_count.Statement.{statement}
 use Rattle.cadraspes.proofs.cadraspes_effective_count.Tie as tie

@@ -1,5 +1,5 @@
 -- `cadraspes::cadraspes_generation` meets its contract.
-use Rattle.cadraspes.proofs.ToldLaws.{tells-generation}
+use Rattle.boundary.proofs.ToldLaws.{tells-generation}
 use borrow.Author.Needs.{needs}
 use Rattle.cadraspes.proofs.cadraspes_generation.Statement.{statement}
 use Rattle.cadraspes.proofs.cadraspes_generation.Tie as tie

@@ -1,5 +1,5 @@
 -- `cadraspes::cadraspes_version` meets its contract.
-use Rattle.cadraspes.proofs.ToldLaws.{tells-version}
+use Rattle.boundary.proofs.ToldLaws.{tells-version}
 use borrow.Author.Needs.{needs}
 use Rattle.cadraspes.proofs.cadraspes_version.Statement.{statement}
 use Rattle.cadraspes.proofs.cadraspes_version.Tie as tie

@@ -1,5 +1,5 @@
 -- `holdings::answer` meets its contract: the room is read, and the call works inside of it.
-use Rattle.holdings.proofs.CallLaws.{whole, no-room}
+use Rattle.arrivals.proofs.CallLaws.{whole, no-room}
 use borrow.Author.Needs.{needs}
 use Rattle.holdings.proofs.answer.Statement.{statement}
 use Rattle.holdings.proofs.answer.Tie as tie

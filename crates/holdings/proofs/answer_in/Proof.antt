@@ -1,5 +1,5 @@
 -- `holdings::answer_in` meets its contract.
-use Rattle.holdings.proofs.CallLaws.{answer-value, answer-unknown, answer-final, answer-done}
+use Rattle.arrivals.proofs.CallLaws.{answer-value, answer-unknown, answer-final, answer-done}
 use Rattle.block.specs.Records.{hashMeans}
 use denote.Ref.{now}
 use mathlib.Core.Path.{_∙_, sym}

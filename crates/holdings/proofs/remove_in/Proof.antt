@@ -1,5 +1,5 @@
 -- `holdings::remove_in` meets its contract.
-use Rattle.holdings.proofs.CallLaws.{remove-kind, remove-nowhere, remove-none, remove-last, remove-done}
+use Rattle.arrivals.proofs.CallLaws.{remove-kind, remove-nowhere, remove-none, remove-last, remove-done}
 use Rattle.state.proofs.TouchSteps.{touch-moves}
 use Rattle.block.specs.Records.{hashMeans}
 use denote.Ref.{now}

@@ -7,10 +7,10 @@ use Rattle.replay.proofs.answer_lines.Statement.{statement}
 use Rattle.replay.proofs.answer_lines.Tie as tie
 
 abbrev Inv-loop : tie.InvT-loop
-Inv-loop text mem₀ list₀ lent to₀ now₀ mem list to now = (to ≤ length text) × (length mem ≡ length mem₀) × (length list ≡ length list₀)
+Inv-loop text mem₀ list₀ entries₀ lent to₀ now₀ mem list entries to now = (to ≤ length text) × (length mem ≡ length mem₀) × (length list ≡ length list₀) × (length entries ≡ length entries₀)
 
 abbrev μ-loop : tie.MeasureT-loop
-μ-loop text mem₀ list₀ lent to₀ now₀ mem list to now = length text - to
+μ-loop text mem₀ list₀ entries₀ lent to₀ now₀ mem list entries to now = length text - to
 
 pub answer-lines-spec : {M : Type 1} → statement M
 answer-lines-spec =
@@ -26,7 +26,9 @@ answer-lines-spec =
     (λ c. search needs)
     (λ c. search needs)
     (λ c. search needs)
+    (λ c. search needs)
     (λ c κs. search needs)
+    (λ c. search needs)
     (λ c. search needs)
     (λ c. search needs)
     (λ c. search needs)

@@ -1,7 +1,7 @@
 -- `standing::below_at` meets its contract.
 use mathlib.Core.Path.{_∙_}
 use denote.Ref.{now}
-use Rattle.standing.specs.Values.{spineOf}
+use Rattle.values.specs.Values.{spineOf}
 use Rattle.standing.proofs.WorkLaws.{below-none, below-winner, below-canonical}
 use borrow.Author.Needs.{needs}
 use Rattle.standing.proofs.below_at.Statement.{statement}

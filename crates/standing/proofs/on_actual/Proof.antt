@@ -1,7 +1,7 @@
 -- `standing::on_actual` meets its contract.
 use mathlib.Core.Path.{_∙_}
 use Rattle.amount.specs.Value.{value}
-use Rattle.standing.specs.Values.{valueMeans}
+use Rattle.values.specs.Values.{valueMeans}
 use Rattle.standing.proofs.WorkLaws.{actual-root, actual-above}
 use borrow.Author.Needs.{needs}
 use Rattle.standing.proofs.on_actual.Statement.{statement}

@@ -1,5 +1,5 @@
 -- `standing::one_less` meets its contract.
-use Rattle.standing.proofs.ValueLaws.{no-less, one-less}
+use Rattle.values.proofs.ValueLaws.{no-less, one-less}
 use borrow.Author.Needs.{needs}
 use Rattle.standing.proofs.one_less.Statement.{statement}
 use Rattle.standing.proofs.one_less.Tie as tie

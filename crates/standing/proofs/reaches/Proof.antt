@@ -1,7 +1,7 @@
 -- `standing::reaches` meets its contract. What `amount::compare` promises is two tests.
 use Rattle.amount.specs.Value.{value}
 use Rattle.amount.proofs.Promises.{on-less, on-equal, on-greater}
-use Rattle.standing.proofs.ValueLaws.{reached, unreached}
+use Rattle.values.proofs.ValueLaws.{reached, unreached}
 use borrow.Author.Needs.{needs}
 use Rattle.standing.proofs.reaches.Statement.{statement}
 use Rattle.standing.proofs.reaches.Tie as tie

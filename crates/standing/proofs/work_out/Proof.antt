@@ -4,7 +4,7 @@ use native.Mathlib.Omega.{arith}
 use denote.Ref.{now}
 use borrow.Author.Tests.{not-true, not-false}
 use Rattle.block.specs.Records.{headerMeans}
-use Rattle.standing.specs.Values.{spineOf, valueMeans}
+use Rattle.values.specs.Values.{spineOf, valueMeans}
 use Rattle.standing.proofs.WorkLaws.{work-barred, work-done}
 use borrow.Author.Needs.{needs}
 use Rattle.standing.proofs.work_out.Statement.{statement}

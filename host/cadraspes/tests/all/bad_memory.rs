@@ -4,7 +4,7 @@
 use crate::common::{with_library, Rng};
 use crate::guarded::{Library, Memory, Words};
 use cadraspes::boundary;
-use history::{Block, Call, Hash, Marks};
+use history::{Block, Call, Hash, Marks, Terms};
 
 pub fn name(number: u64) -> Hash {
     let mut hash = [0; 32];
@@ -29,7 +29,8 @@ fn every_call(memory: &Memory, rng: &mut Rng) -> Vec<u64> {
     for bytes in [0, 33, 32 * 9] {
         numbers.push(memory.changes(generation.words[0], back, bytes).0.number);
     }
-    let calls: [Calling; 17] = [
+    let terms = Terms { floor: rng.pick(&[None, Some(0), Some(1)]), n: rng.below(4), clock: -7 };
+    let calls: [Calling; 19] = [
         &|memory, hash| memory.load(0, &block(hash)),
         &|memory, hash| memory.put(1, &block(hash)),
         &|memory, hash| memory.remove(0, hash),
@@ -45,17 +46,19 @@ fn every_call(memory: &Memory, rng: &mut Rng) -> Vec<u64> {
         &|memory, _| memory.number(boundary::canonical_count).number,
         &|memory, _| memory.number(boundary::live_count).number,
         &|memory, _| memory.leaves(32 * 9).0.number,
+        &|memory, _| memory.plan(boundary::select, &terms, 9).0.number,
+        &|memory, _| memory.plan(boundary::adopt, &terms, 9).0.number,
         &|memory, _| memory.call(boundary::sync),
         &|memory, _| memory.call(|mem| boundary::reload(mem, u64::MAX, 3)),
     ];
     let mut together = memory.clone();
     for hash in names {
-        for call in &calls[..16] {
+        for call in &calls[..18] {
             numbers.push(call(&mut together, hash));
             numbers.push(call(&mut memory.clone(), hash));
         }
     }
-    numbers.push(calls[16](&mut together, names[0]));
+    numbers.push(calls[18](&mut together, names[0]));
     numbers
 }
 
@@ -138,7 +141,8 @@ fn memory_of_random_words() {
     assert!(numbers[0] > 10_000, "most calls got past the head: {numbers:?}");
 }
 
-/// A sync of more places ends too: it takes n * n + n turns at most.
+/// A sync of more places ends too, in n * n + n turns at most, and so do plans
+/// after it.
 #[test]
 fn a_sync_of_any_memory_ends() {
     if !with_library() {
@@ -155,6 +159,9 @@ fn a_sync_of_any_memory_ends() {
         for _ in 0..3 {
             assert_eq!(memory.call(boundary::sync), 0);
             memory.leaves(32 * 200);
+            let terms = Terms { floor: None, n: rng.below(9), clock: 1 };
+            memory.plan(boundary::select, &terms, 200);
+            memory.plan(boundary::adopt, &terms, 200);
             memory.tip(boundary::best);
         }
     }

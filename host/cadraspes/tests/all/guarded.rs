@@ -1,9 +1,9 @@
 //! The library with guards on both sides of everything that it is lent. After
 //! each call the guards are looked at, and after a refusal that nothing that
 //! was lent has changed.
-use cadraspes::boundary::{self, Record, ShownWords, ValueWords};
-use cadraspes::words::{copy_words, reading_of, shown_of, value_of};
-use cadraspes::{room, Hash};
+use cadraspes::boundary::{self, EntryWords, PlannedWords, Record, ShownWords, ValueWords};
+use cadraspes::words::{choice_of, copy_words, entry_of, reading_of, shown_of, side_words, value_of};
+use cadraspes::{room, Hash, Plan, Side, Terms};
 use history::{Answer, Block, Call};
 
 const GUARD: u64 = 0x6a09_e667_f3bc_c908;
@@ -168,8 +168,29 @@ impl Memory {
         assert!(number == 0 || untouched, "a question refused with {number} wrote an answer");
         (Asked { number, words: out.shown().to_vec() }, list.shown().to_vec())
     }
+
+    /// A plan, with a list of so many places. Those past its entries must stay.
+    pub fn plan(&mut self, plan: AskPlan, terms: &Terms, places: usize) -> (Asked, Vec<EntryWords>) {
+        let (mut list, mut out) = (Words::new(&vec![OUT; 16 * places]), Words::new(&[OUT; 3]));
+        let (lent, rest) = list.inner().as_chunks_mut::<16>();
+        assert!(rest.is_empty());
+        let told = out.inner().try_into().expect("three words");
+        let number = self.call(|mem| plan(mem, terms, lent, told));
+        list.check();
+        out.check();
+        let untouched = list.shown().iter().chain(out.shown()).all(|word| *word == OUT);
+        assert!(number == 0 || untouched, "a plan refused with {number} wrote an answer");
+        let entries = list.shown().as_chunks::<16>().0.to_vec();
+        if number == 0 {
+            let told = out.shown();
+            assert!(told[0] == 1 || told == [0, 0, 0], "{told:?}");
+            assert!(entries[told[2] as usize..].iter().all(|entry| *entry == [OUT; 16]), "places past the end");
+        }
+        (Asked { number, words: out.shown().to_vec() }, entries)
+    }
 }
 
+pub type AskPlan = fn(&mut [u64], &Terms, &mut [EntryWords], &mut PlannedWords) -> u64;
 pub type AskBlock = fn(&[u64], &[u8; 32], &mut ShownWords) -> u64;
 pub type AskValue = fn(&[u64], &[u8; 32], &mut ValueWords) -> u64;
 pub type AskTip = fn(&[u64], &mut ShownWords, &mut ValueWords) -> u64;
@@ -212,12 +233,14 @@ pub struct Library {
 
 impl Library {
     pub fn call(&mut self, call: &Call) -> Answer {
-        if let Call::Start { hashes, journal, generation, version } = call {
-            return self.start(*hashes, *journal, *generation, *version);
-        }
         let lend = self.lend;
-        let memory = self.memory.as_mut().expect("a start was accepted");
+        // Before a start: a memory of no words, of which the library answers 1.
+        let mut none = Memory(Words::new(&[]));
+        let memory = self.memory.as_mut().unwrap_or(&mut none);
         match call {
+            Call::Start { hashes, journal, generation, version } => {
+                self.start(*hashes, *journal, *generation, *version)
+            }
             Call::Reload { generation, version } => {
                 done(memory.call(|mem| boundary::reload(mem, *generation, *version)))
             }
@@ -240,12 +263,14 @@ impl Library {
             Call::Version => number(memory.number(boundary::version)),
             Call::Leaves => leaves(memory, lend),
             Call::Changes { generation, version } => changes(memory, *generation, *version, lend),
+            Call::Select(terms) => plan(memory, boundary::select, terms, lend),
+            Call::Adopt(terms) => plan(memory, boundary::adopt, terms, lend),
+            Call::Choose(local, remote) => chosen(local, remote),
             Call::Amount(text) => amount(text),
             Call::Lend(length) => {
                 self.lend = *length;
                 Answer::Done
             }
-            _ => panic!("the library does not have {call}"),
         }
     }
 
@@ -307,6 +332,17 @@ fn leaves(memory: &mut Memory, lend: Option<u64>) -> Answer {
     listed(memory.leaves(32 * places as usize))
 }
 
+/// With a list of the length lent, or two places more than could be needed.
+fn plan(memory: &mut Memory, plan: AskPlan, terms: &Terms, lend: Option<u64>) -> Answer {
+    let places = lend.unwrap_or(memory.number(boundary::effective_count).words[0] + 2);
+    let (asked, entries) = memory.plan(plan, terms, places as usize);
+    answer(asked, |words| {
+        let entries = || entries[..words[2] as usize].iter().map(entry_of).collect();
+        let applied = || Plan::Apply { changed: words[1], entries: entries() };
+        Answer::Plan(if words[0] == 1 { applied() } else { Plan::Scan })
+    })
+}
+
 fn listed((asked, list): (Asked, Vec<u8>)) -> Answer {
     let (there, count) = (asked.words[0] == 1, asked.words[1] as usize);
     answer(asked, |_| {
@@ -319,6 +355,26 @@ fn listed((asked, list): (Asked, Vec<u8>)) -> Answer {
         } else {
             Answer::None
         }
+    })
+}
+
+/// What both sides cross as is in guards, and must stay as it was.
+fn chosen(local: &Side<String>, remote: &Side<String>) -> Answer {
+    let lent = [local, remote].map(|side| {
+        let work = side.work.as_deref().and_then(|text| text.parse().ok());
+        let words = side_words(&Side { work, index: side.index, hash: side.hash });
+        (Words::new(&words), Bytes::new(&side.hash.0))
+    });
+    let before = lent.clone();
+    let mut out = Words::new(&[OUT; 6]);
+    let side = |at: usize| lent[at].0.shown().try_into().expect("four words");
+    let hash = |at: usize| lent[at].1.shown().try_into().expect("32 bytes");
+    let number = boundary::choose(side(0), hash(0), side(1), hash(1), out.inner().try_into().expect("six words"));
+    out.check();
+    assert!(lent.iter().zip(&before).all(|(now, then)| now.0 .0 == then.0 .0 && now.1 .0 == then.1 .0));
+    answer(Asked { number, words: out.shown().to_vec() }, |words| {
+        let (choice, reason) = choice_of(words.try_into().expect("six words"));
+        Answer::Chosen(choice, reason)
     })
 }
 

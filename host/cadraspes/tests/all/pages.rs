@@ -5,6 +5,7 @@
 use crate::bad_memory::{name, sound};
 use crate::common::{with_library, Rng};
 use cadraspes::boundary::{self, Record};
+use cadraspes::Terms;
 use std::ffi::c_void;
 
 extern "C" {
@@ -75,6 +76,12 @@ fn every_call(memory: &[u64], rng: &mut Rng) -> usize {
     let hash: &[u8; 32] = (&*hash.bytes()).try_into().expect("32 bytes");
     let (prev, copy) = ((&*prev.bytes()).try_into().expect("32"), (&*copy.as_words()).try_into().expect("12"));
     let record = Record { hash, index: 0, epoch: 0, prev, target: target.bytes(), actual: actual.bytes(), copy };
+    let (mut side, mut six) = (Lent::words(&[rng.below(2), 5, 0, 7]), Lent::words(&[0; 6]));
+    let side: &[u64; 4] = (&*side.as_words()).try_into().expect("4 words");
+    let six: &mut [u64; 6] = six.as_words().try_into().expect("6 words");
+    let mut entries = Lent::words(&vec![0; 16 * rng.below(9) as usize]);
+    let entries = entries.as_words().as_chunks_mut::<16>().0;
+    let terms = Terms { floor: Some(rng.below(3)), n: rng.below(4), clock: i64::MIN };
     let number = &mut number.as_words()[0];
     let shown: &mut [u64; 29] = shown.as_words().try_into().expect("29 words");
     let asked = [boundary::version(mem, number), boundary::generation(mem, number)];
@@ -88,6 +95,8 @@ fn every_call(memory: &[u64], rng: &mut Rng) -> usize {
         boundary::answer(mem, hash, rng.below(3)),
         boundary::remove(mem, rng.below(3), hash),
         boundary::amount(record.actual, three),
+        boundary::choose(side, hash, side, prev, six),
+        boundary::select(mem, &terms, entries, three),
         boundary::sync(mem),
         boundary::node(mem, hash, shown),
         boundary::parent(mem, hash, shown),
@@ -98,6 +107,8 @@ fn every_call(memory: &[u64], rng: &mut Rng) -> usize {
         boundary::canonical_count(mem, number),
         boundary::live_count(mem, number),
         boundary::leaves(mem, list.bytes(), two),
+        boundary::select(mem, &terms, entries, three),
+        boundary::adopt(mem, &terms, entries, three),
         boundary::reload(mem, 1 + rng.below(3), 0),
         boundary::start(mem, 1 + rng.below(8), 1 + rng.below(8), 1, 0),
     ];

@@ -37,10 +37,24 @@ fn random(rng: &mut Rng, version: u64) -> String {
         11 | 12 => format!("answer {name} {}", rng.below(4)),
         13 => format!("effective {name}"),
         14 => rng.pick(&["count", "generation", "version"]).to_string(),
+        17 => {
+            let (plan, floor) = (rng.pick(&["select", "adopt"]), rng.pick(&["-", "-", "0", "1"]));
+            format!("{plan} {floor} {} {}", rng.below(3), rng.pick(&[0, -1, i64::MAX]))
+        }
         15 => format!("lend {}", rng.pick(&["-", "0", "1", "2"])),
+        16 if rng.below(3) > 0 => comparison(rng),
         16 => format!("amount \"{actual}\""),
         _ => format!("changes {} {}", rng.below(3), rng.pick(&[back, back, version, version.wrapping_add(1)])),
     }
+}
+
+fn comparison(rng: &mut Rng) -> String {
+    let mut side = || {
+        let work = rng.pick(&["?", "\"1\"", "\"2\"", "\"+1\"", "\"18446744073709551616\"", "\"\""]);
+        let tip = rng.pick(&["1", "2", "10000000000000000", "ff000000000000000000000000000000000000000000000001"]);
+        format!("{work} {} {tip}", rng.pick(&[0, 1, u64::MAX]))
+    };
+    format!("choose {} {}", side(), side())
 }
 
 #[test]
@@ -84,7 +98,7 @@ fn many_hashes_are_held_as_document_01_is_read() {
         (0..3_100).map(|at| format!("{:x}{:016x}", rng.next(), rng.below(1 << (at % 40)))).collect();
     let mut call = |line: String| {
         let call = Call::read(&line).expect("a call");
-        assert_eq!(library.call(&call), Some(replay.call(&call)), "{line}");
+        assert_eq!(library.call(&call), replay.call(&call), "{line}");
         replay.0.as_ref().map_or(0, |reading| reading.holding.version)
     };
     let mut version = call("start 3000 500 1 0".to_string());

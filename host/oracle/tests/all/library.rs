@@ -1,5 +1,5 @@
 //! The library against the original and the reading of document 01: recorded
-//! histories and random ones, as far as it has the calls.
+//! histories and random ones.
 use crate::common::with_original;
 use crate::recorded::{all, text};
 use oracle::generate::{generate, HOLDINGS, PROFILES};
@@ -28,13 +28,13 @@ fn recorded_answers(text: &str) -> Vec<String> {
     answers
 }
 
-/// Every recorded history; calls that the library lacks are passed over.
+/// Every recorded history.
 #[test]
 fn the_library_gives_the_recorded_answers() {
     if !with_library() {
         return;
     }
-    let (mut whole, mut calls) = (0, 0);
+    let (mut files, mut calls) = (0, 0);
     for file in all() {
         let expected = recorded_answers(&text(&file.with_extension("answers")));
         let given = given(text(&file).as_bytes(), library());
@@ -43,11 +43,10 @@ fn the_library_gives_the_recorded_answers() {
             assert!(difference.is_none(), "{}: {}", file.display(), difference.unwrap());
         }
         assert_eq!(given.len(), expected.len(), "{}", file.display());
-        let answered = given.iter().filter(|one| one.answer.is_some()).count();
-        calls += answered;
-        whole += usize::from(answered == expected.len());
+        files += 1;
+        calls += given.len();
     }
-    assert!(whole >= 50 && calls >= 1_500, "{whole} whole histories, {calls} calls");
+    assert!(files >= 140 && calls >= 1_600, "{files} histories, {calls} calls");
 }
 
 #[test]
@@ -87,12 +86,22 @@ fn histories_of_the_holdings_ask_the_library_only() {
 
 /// Players that are wrong in one call each.
 fn wrong(call: &'static str, from: &'static str, to: &'static str) -> Player {
-    let mut library = library();
-    Box::new(move |asked| {
-        let answer = library(asked)?;
+    let Player { call: mut right, covers } = library();
+    let answered = move |asked: &history::Call| {
+        let answer = right(asked);
         let there = asked.name() == call && answer.to_string().starts_with(from);
-        Some(if there { history::Answer::Number(to.parse().expect("a number")) } else { answer })
-    })
+        if there {
+            history::Answer::Number(to.parse().expect("a number"))
+        } else {
+            answer
+        }
+    };
+    Player { call: Box::new(answered), covers }
+}
+
+/// A player that does not add one to the index.
+fn wrong_in_covering() -> Player {
+    Player { covers: |index, epoch, n| cadraspes::covers(index.saturating_sub(1), epoch, n), ..library() }
 }
 
 #[test]
@@ -109,7 +118,12 @@ fn a_wrong_library_is_found_and_its_history_made_small() {
     for player in players {
         small(compare(500, 7_000_000, &[HOLDINGS], player, &|_| {}), 6);
     }
-    let trees: [fn() -> Player; 5] = [
+    let trees: [fn() -> Player; 10] = [
+        || wrong("select", "0 apply 1", "1"),
+        || wrong("adopt", "0 scan", "0"),
+        || wrong("adopt", "0 apply 0 1", "1"),
+        wrong_in_covering,
+        || wrong("choose", "0 remote peer-tip", "1"),
         || wrong("best", "0 ", "0"),
         || wrong("linked", "0 0x2 no", "0"),
         || wrong("leaves", "0 2", "2"),

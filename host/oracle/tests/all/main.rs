@@ -1,5 +1,6 @@
 //! The tests of both engines.
 mod amounts;
+mod class;
 mod common;
 mod comparison;
 mod either_side;

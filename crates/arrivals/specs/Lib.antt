@@ -1,0 +1,3 @@
+-- Where a record goes, and what the inner functions of calls promise.
+pub mod Seats
+pub mod Calls

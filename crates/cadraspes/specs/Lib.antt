@@ -1,4 +1,0 @@
--- What the bytes and words that cross to a host mean.
-pub mod Lent
-pub mod Told
-pub mod ToldTree

@@ -1,0 +1,2 @@
+-- What the core of a plan promises.
+pub mod Plots

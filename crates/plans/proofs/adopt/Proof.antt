@@ -1,0 +1,20 @@
+-- `plans::adopt` meets its contract.
+use mir.Syntax.{w64}
+use mir.ValLaws.{toZ-ofZ}
+use Rattle.model.specs.Plans.{adoptC}
+use Rattle.walks.specs.Asking.{floorMeans}
+use Rattle.plans.specs.Lent.{placesIn}
+use denote.Ref.{now}
+use Rattle.plans.proofs.CallLaws.{plan-finished}
+use borrow.Author.Needs.{needs}
+use Rattle.plans.proofs.adopt.Statement.{statement}
+use Rattle.plans.proofs.adopt.Tie as tie
+
+finish-requires : tie.Need-finish-requires
+finish-requires c κs = c .before .before .before .before .begin-adopt .ensures .laid
+
+returns : tie.Need-returns
+returns c = plan-finished (λ clock. adoptC (floorMeans (c .before .before .before .before .before .before .before .before .before .before .before .before .before .args .floor)) (c .before .before .before .before .before .before .before .before .before .before .before .before .before .args .per-epoch) clock (placesIn (now (c .before .before .before .before .before .before .before .before .before .before .before .before .before .args .list)))) (c .before .before .before .before .before .before .before .before .before .before .before .before .before .args .clock) _ _ _ _ _ _ _ (c .before .before .before .before .before .before .before .before .before .begin-adopt .ensures) (rw (toZ-ofZ w64 (c .before .before .before .before .before .before .before .before .before .before .before .before .before .args .clock) (c .before .before .before .before .before .before .before .before .before .before .before .before .before .fits .clock)) at (c .before .before .before .before .finish .ensures))
+
+pub adopt-spec : {M : Type 1} → statement M
+adopt-spec = tie.close (tie.spec (λ c κs. search needs) finish-requires (λ c. search needs) (λ c. search needs) returns)

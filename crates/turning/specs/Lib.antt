@@ -1,0 +1,2 @@
+-- What passes and climbs make of the codes of places.
+pub mod Turned

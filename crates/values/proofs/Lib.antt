@@ -1,0 +1,2 @@
+-- Laws; each function's own proof stands in a folder of its name.
+pub mod ValueLaws

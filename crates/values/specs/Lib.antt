@@ -1,0 +1,2 @@
+-- What a linked value means.
+pub mod Values
