@@ -1,5 +1,6 @@
-// The library that a host links: the calls of document 01 as functions of C, on numbers and slices. A call gives back document 01's
-// number, 0 or a refusal; a question writes its answer into words that the host lends, and a refusal leaves them as they were.
+// The library: every call of document 01 and nothing else, twice. For programs in Rattle the calls on the types of `block`, each where it is
+// proved; for a host the same as functions of C, on numbers and slices. There a call gives back document 01's number, 0 or a refusal; a question
+// writes its answer into words that the host lends, and a refusal leaves them as they were.
 ghost use mathlib.Core.Path.{_≡_};
 ghost use lib.ListN.{length};
 ghost use Rattle.amount.specs.Amounts.{reading};
@@ -19,7 +20,43 @@ ghost use Rattle.state.specs.Moves as moves;
 ghost use Rattle.tree.specs.Calls.{Keeps};
 use entries::Entry;
 
-// ---- calls ----
+// ---- the calls, for programs in Rattle ----
+
+// start and reload, the holdings and their questions
+pub use arrivals::load;
+pub use arrivals::put;
+pub use clearing::reload;
+pub use clearing::start;
+pub use holdings::answer;
+pub use holdings::changes;
+pub use holdings::effective;
+pub use holdings::effective_count;
+pub use holdings::generation;
+pub use holdings::remove;
+pub use holdings::version;
+
+// sync, and the questions about the tree
+pub use asking::best;
+pub use asking::canonical_best;
+pub use asking::canonical_count;
+pub use asking::canonical_linked;
+pub use asking::linked;
+pub use asking::live_count;
+pub use asking::node;
+pub use asking::parent;
+pub use leaves::leaves;
+pub use tree::sync;
+
+// amounts, the comparison of two chains, the two plans
+pub use amount::read;
+pub use choice::choose;
+pub use choice::covers;
+pub use plans::adopt;
+pub use plans::select;
+
+// ---- the calls, for a host ----
+
+// ---- start and reload, the holdings, sync ----
 
 #[no_mangle]
 pub extern "C" fn cadraspes_start(

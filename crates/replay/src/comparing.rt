@@ -64,5 +64,5 @@ pub fn choose(line: &[u8], mem: &[u64]) {
     if memory::room(mem) == 0 {
         return answers::no_start();
     }
-    answers::chosen(choice::choose(local, peer));
+    answers::chosen(cadraspes::choose(local, peer));
 }

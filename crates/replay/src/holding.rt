@@ -34,7 +34,7 @@ pub fn start(line: &[u8], mem: &mut [u64], lent: u64) -> u64 {
         answers::no_call();
         return lent;
     }
-    let given = clearing::start(mem, hashes, journal, generation, version);
+    let given = cadraspes::start(mem, hashes, journal, generation, version);
     answers::begun(given);
     match given {
         Done::Done => lists::WHOLE,
@@ -46,7 +46,7 @@ pub fn reload(line: &[u8], mem: &mut [u64]) {
     let Pair::Numbers(generation, version) = words::two_numbers(line) else {
         return answers::no_call();
     };
-    answers::done(clearing::reload(mem, generation, version));
+    answers::done(cadraspes::reload(mem, generation, version));
 }
 
 // ---- records ----
@@ -55,14 +55,14 @@ pub fn load(line: &[u8], mem: &mut [u64]) {
     let Given::In(store, b) = blocks::read(line) else {
         return answers::no_call();
     };
-    answers::done(arrivals::load(mem, store, b));
+    answers::done(cadraspes::load(mem, store, b));
 }
 
 pub fn put(line: &[u8], mem: &mut [u64]) {
     let Given::In(store, b) = blocks::read(line) else {
         return answers::no_call();
     };
-    answers::done(arrivals::put(mem, store, b));
+    answers::done(cadraspes::put(mem, store, b));
 }
 
 pub fn remove(line: &[u8], mem: &mut [u64]) {
@@ -75,7 +75,7 @@ pub fn remove(line: &[u8], mem: &mut [u64]) {
     if !words::has(line, 3) {
         return answers::no_call();
     }
-    answers::done(holdings::remove(mem, store, h));
+    answers::done(cadraspes::remove(mem, store, h));
 }
 
 pub fn answer(line: &[u8], mem: &mut [u64]) {
@@ -88,7 +88,7 @@ pub fn answer(line: &[u8], mem: &mut [u64]) {
     if !words::has(line, 3) {
         return answers::no_call();
     }
-    answers::done(holdings::answer(mem, h, value));
+    answers::done(cadraspes::answer(mem, h, value));
 }
 
 // ---- what is lent: a list to changes, and how long lists are ----
@@ -98,7 +98,7 @@ pub fn changes(line: &[u8], mem: &[u64], list: &mut [u8], lent: u64) {
         return answers::no_call();
     };
     let n = lists::lent_bytes(list.len(), lent);
-    let given = holdings::changes(mem, generation, version, &mut list[0..n]);
+    let given = cadraspes::changes(mem, generation, version, &mut list[0..n]);
     answers::listed(given, list);
 }
 

@@ -1,5 +1,5 @@
 // Replays a history (docs/HISTORY.md) on the library: calls on standard input, a line each, and their answers on standard output.
-// This file reads the lines and tells the calls apart; `holding`, `standing`, `questions`, `comparing` and `planning` make the calls,
+// This file reads the lines and tells the calls apart; `holding`, `syncing`, `questions`, `comparing` and `planning` make the calls,
 // `words`, `reasons` and `blocks` read what stands in a line, `answers`, `lists` and `write` write.
 mod answers;
 mod blocks;
@@ -9,7 +9,7 @@ mod lists;
 mod planning;
 mod questions;
 mod reasons;
-mod standing;
+mod syncing;
 mod words;
 mod write;
 
@@ -41,7 +41,7 @@ fn call(name: &[u8], line: &[u8], mem: &mut [u64]) {
         2 => holding::put(line, mem),
         3 => holding::remove(line, mem),
         4 => holding::answer(line, mem),
-        5 => standing::sync(line, mem),
+        5 => syncing::sync(line, mem),
         _ => questions::question(name, line, mem),
     }
 }
@@ -59,7 +59,7 @@ fn answer_call(
         0 => return holding::start(line, mem, lent),
         1 => return holding::lend(line, mem, lent),
         2 => holding::changes(line, mem, list, lent),
-        3 => standing::leaves(line, mem, list, lent),
+        3 => syncing::leaves(line, mem, list, lent),
         4 => planning::select(line, mem, entries, lent),
         5 => planning::adopt(line, mem, entries, lent),
         _ => call(name, line, mem),

@@ -50,7 +50,7 @@ pub fn select(line: &[u8], mem: &mut [u64], entries: &mut [u64], lent: u64) {
         return answers::no_call();
     };
     let k = lists::lent_words(entries.len(), lent);
-    let given = plans::select(mem, floor, n, clock, &mut entries[0..k]);
+    let given = cadraspes::select(mem, floor, n, clock, &mut entries[0..k]);
     answers::planned(given, entries);
 }
 
@@ -59,6 +59,6 @@ pub fn adopt(line: &[u8], mem: &mut [u64], entries: &mut [u64], lent: u64) {
         return answers::no_call();
     };
     let k = lists::lent_words(entries.len(), lent);
-    let given = plans::adopt(mem, floor, n, clock, &mut entries[0..k]);
+    let given = cadraspes::adopt(mem, floor, n, clock, &mut entries[0..k]);
     answers::planned(given, entries);
 }

@@ -8,13 +8,13 @@ use crate::words::Quoted;
 
 fn alone(name: &[u8], mem: &[u64]) {
     match words::place(name, b"count generation version live ccount best cbest") {
-        0 => answers::counted(holdings::effective_count(mem)),
-        1 => answers::counted(holdings::generation(mem)),
-        2 => answers::counted(holdings::version(mem)),
-        3 => answers::counted(asking::live_count(mem)),
-        4 => answers::counted(asking::canonical_count(mem)),
-        5 => answers::tip(asking::best(mem)),
-        6 => answers::tip(asking::canonical_best(mem)),
+        0 => answers::counted(cadraspes::effective_count(mem)),
+        1 => answers::counted(cadraspes::generation(mem)),
+        2 => answers::counted(cadraspes::version(mem)),
+        3 => answers::counted(cadraspes::live_count(mem)),
+        4 => answers::counted(cadraspes::canonical_count(mem)),
+        5 => answers::tip(cadraspes::best(mem)),
+        6 => answers::tip(cadraspes::canonical_best(mem)),
         _ => answers::no_call(),
     }
 }
@@ -24,11 +24,11 @@ fn of_hash(name: &[u8], word: &[u8], mem: &[u64]) {
         return answers::no_call();
     };
     match words::place(name, b"effective node parent linked clinked") {
-        0 => answers::shown(holdings::effective(mem, h)),
-        1 => answers::shown(asking::node(mem, h)),
-        2 => answers::shown(asking::parent(mem, h)),
-        3 => answers::worth(asking::linked(mem, h)),
-        4 => answers::worth(asking::canonical_linked(mem, h)),
+        0 => answers::shown(cadraspes::effective(mem, h)),
+        1 => answers::shown(cadraspes::node(mem, h)),
+        2 => answers::shown(cadraspes::parent(mem, h)),
+        3 => answers::worth(cadraspes::linked(mem, h)),
+        4 => answers::worth(cadraspes::canonical_linked(mem, h)),
         _ => answers::no_call(),
     }
 }

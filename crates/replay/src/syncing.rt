@@ -8,7 +8,7 @@ pub fn sync(line: &[u8], mem: &mut [u64]) {
     if !words::has(line, 1) {
         return answers::no_call();
     }
-    answers::done(tree::sync(mem));
+    answers::done(cadraspes::sync(mem));
 }
 
 pub fn leaves(line: &[u8], mem: &mut [u64], list: &mut [u8], lent: u64) {
@@ -16,6 +16,6 @@ pub fn leaves(line: &[u8], mem: &mut [u64], list: &mut [u8], lent: u64) {
         return answers::no_call();
     }
     let n = lists::lent_bytes(list.len(), lent);
-    let given = leaves::leaves(mem, &mut list[0..n]);
+    let given = cadraspes::leaves(mem, &mut list[0..n]);
     answers::listed(given, list);
 }
