@@ -5,7 +5,8 @@
  * does not. A refusal carries its number and nothing else: memory, lists and out words stay as they were.
  *
  * `mem` is `words` words, CADRASPES_WORDS of the two rooms or more. On a memory whose head names no rooms that fit it, as before the first
- * start, every call that is lent it but start gives 1 ROOM, sync too; this is not said again below.
+ * start, every call that is lent it but start gives 1 ROOM, sync too; this is not said again below. (Document 01 asks of a memory that no
+ * call left only that calls end and stay in bounds, which is proved; the 1 is tested.)
  *
  * The library reads and writes only what it is lent, whatever stands there. It asks of the caller that lengths are true, that pointers
  * point to what they say, and that what is written is lent to nobody else meanwhile. It has no state of its own and asks for no memory. */
@@ -60,8 +61,9 @@ enum { CADRASPES_ELIGIBLE = 0, CADRASPES_ELIGIBLE_FOR_NOW = 1, CADRASPES_INELIGI
  *   3        reason: 0 none, else its kind
  *   4 to 7   the reason's numbers
  *   8 to 11  the competing hash
- * Any words mean something, and what is not said to be there is not looked at. Twelve zeros are a copy with no flag and none of the optional
- * three. */
+ * Any words mean something, and what is not said to be there is not looked at. In a call a state of 0 is a copy with no flag and none of the
+ * optional three, whatever the other eleven words. Of a time's word the highest bit is not looked at; a time's kind above 2 is read as 2, a
+ * reason's kind above 13 as 13, and of a state only the three flags are read. */
 #define CADRASPES_COPY_WORDS 12
 
 /* The state word of a copy, each part 0 or 1; and its parts, of any state word. */
@@ -138,8 +140,9 @@ uint64_t cadraspes_remove(uint64_t *mem, size_t words, uint64_t store, const uin
 /* Gives the eligibility answer for a hash that has room. The next sync that works the block out reads it. Refused: 10, 9, 11. */
 uint64_t cadraspes_answer(uint64_t *mem, size_t words, const uint8_t hash[32], uint64_t answer);
 
-/* Brings the tree up to the records and answers now held, closes loading, and frees the room of hashes that no store holds. Never
- * refused on a memory that a start made. */
+/* Brings the tree up to the records now held, closes loading, and frees the room of hashes that no store holds. Blocks that it works out
+ * anew, the changed ones and those above them whose values change, see the answers now held; others keep what they saw. Never refused on
+ * a memory that a start made. */
 uint64_t cadraspes_sync(uint64_t *mem, size_t words);
 
 /* ---- questions about the holdings: never 12 ---- */
@@ -193,14 +196,19 @@ uint64_t cadraspes_leaves(uint64_t *mem, size_t words, uint8_t *list, size_t lis
 
 /* ---- the two plans ---- */
 
-/* Whether to stand on the best block. A floor is given unless floor_given is 0; per_epoch is the blocks per epoch; clock is the orphaned
+/* Whether to stand on the best block: what is off the canonical line is demoted, and where the best block is to be followed its walk is
+ * promoted and ours demoted. `changed` is 1 after such a switch or a demotion, else 0. A floor is given unless floor_given is 0; per_epoch is the blocks per epoch; clock is the orphaned
  * time that the plan writes. Out: three zeros for scan, the tree cannot tell; or 1, `changed`, and how many entries were written from the
- * front of the list, by index and then hash. Places past them stay. The list needs a place for each live block, even for a scan. A plan
- * changes nothing that the tree stands for: the caller puts what the entries say. Refused: 12, 13. */
+ * front of the list, by index and then hash: the blocks that the plan wrote, one that ends as it was among them. Places past them stay. The
+ * list needs a place for each live block, even for a scan. A plan changes nothing that the tree stands for: the caller puts what the
+ * entries say. Refused: 12, 13. */
 uint64_t cadraspes_select(uint64_t *mem, size_t words, uint64_t floor_given, uint64_t floor, uint64_t per_epoch, int64_t clock,
                           struct cadraspes_entry *list, size_t entries, uint64_t out[3]);
 
-/* Whether to take a branch that grew beside the canonical line. Takes, writes and refuses as select does. */
+/* Whether to take a branch that grew beside the canonical line: leaves go from the heaviest down, each branch is compared with ours from
+ * where it leaves our line, and the first that wins is promoted up to the last block that is safe to take, ours above that point orphaned;
+ * stale branches on the way are orphaned. `changed` is how many blocks were safe, 0 where none won. Takes, writes and refuses as select
+ * does. */
 uint64_t cadraspes_adopt(uint64_t *mem, size_t words, uint64_t floor_given, uint64_t floor, uint64_t per_epoch, int64_t clock,
                          struct cadraspes_entry *list, size_t entries, uint64_t out[3]);
 

@@ -99,10 +99,6 @@ pub fn remove(mem: &mut [u64], store: u64, h: Hash) -> Done
     remove_in(mem, n, store, h)
 }
 
-// ---- puts ----
-
-// ---- loads ----
-
 // ---- questions ----
 
 pub fn generation(mem: &[u64]) -> Counted

@@ -17,7 +17,7 @@ pub type ShownWords = [u64; 29];
 pub type ValueWords = [u64; 3];
 
 /// A side of a comparison: 1 and the two words of its work, the lower first,
-/// or 0 and two more where it is unknown; then its tip's index.
+/// or another number and two more where it is unknown; then its tip's index.
 pub type SideWords = [u64; 4];
 
 /// What a comparison writes: 0 equal, 1 keep local, 2 adopt peer; then the kind

@@ -22,13 +22,15 @@ fn done(number: u64) -> Result<(), Refusal> {
 }
 
 impl Tree {
-    /// An empty tree with room for so many hashes and journal entries.
+    /// An empty tree with room for so many hashes, 1 to 32,768, and journal
+    /// entries, 1 to 200,000. Refused: 1 ROOM.
     pub fn new(hashes: u64, journal: u64, generation: u64, version: u64) -> Result<Tree, Refusal> {
         let words = if hashes <= 32_768 && journal <= 200_000 { room(hashes, journal) } else { 0 };
         Tree::in_memory(vec![0; words as usize], hashes, journal, generation, version)
     }
 
-    /// The same in memory that is given, whatever its words.
+    /// The same in memory that is given, whatever its words: [`room`] of them or
+    /// more. Refused: 1 ROOM.
     pub fn in_memory(
         mut memory: Vec<u64>,
         hashes: u64,
@@ -40,27 +42,35 @@ impl Tree {
         Ok(Tree { memory })
     }
 
-    /// Empties the tree, under a later generation.
+    /// Empties the tree, under a later generation, and opens loading. Refused:
+    /// 8 GENERATION.
     pub fn reload(&mut self, generation: u64, version: u64) -> Result<(), Refusal> {
         done(boundary::reload(&mut self.memory, generation, version))
     }
 
-    /// Brings a record into a store, without a touch.
+    /// Brings a record into a store as a put does, without a touch; taken until
+    /// the first put, effective removal or sync. Refused: 7 LOADED, 2 KIND,
+    /// 3 INDEX, 4 HEADER, 5 FULL.
     pub fn load(&mut self, store: u8, block: &Block<String>) -> Result<(), Refusal> {
         done(with_record(block, |record| boundary::load(&mut self.memory, store.into(), record)))
     }
 
-    /// Puts a record into a store.
+    /// Puts a record into a store, in place of the copy there: one more version,
+    /// one more journal entry. Refused: 2 KIND, 3 INDEX, 4 HEADER, 5 FULL,
+    /// 6 VERSION.
     pub fn put(&mut self, store: u8, block: &Block<String>) -> Result<(), Refusal> {
         done(with_record(block, |record| boundary::put(&mut self.memory, store.into(), record)))
     }
 
-    /// Removes a copy from a store, if it is there.
+    /// Removes a copy from a store, with a touch as a put has; where there is
+    /// none, nothing changes. Refused: 2 KIND, 6 VERSION.
     pub fn remove(&mut self, store: u8, hash: Hash) -> Result<(), Refusal> {
         done(boundary::remove(&mut self.memory, store.into(), &hash.0))
     }
 
-    /// Gives the eligibility answer for a hash: 0, 1 or 2.
+    /// Gives the eligibility answer for a hash that has room: 0 eligible, 1
+    /// eligible for now, 2 ineligible. 0 and 2 are final. Refused: 10 VALUE,
+    /// 9 UNKNOWN, 11 FINAL.
     pub fn answer(&mut self, hash: Hash, answer: u64) -> Result<(), Refusal> {
         done(boundary::answer(&mut self.memory, &hash.0, answer))
     }
@@ -77,10 +87,12 @@ impl Tree {
         self.number(boundary::effective_count)
     }
 
+    /// The generation that the last start or reload named.
     pub fn generation(&self) -> u64 {
         self.number(boundary::generation)
     }
 
+    /// The version: the starting one, and one more for each touch.
     pub fn version(&self) -> u64 {
         self.number(boundary::version)
     }
@@ -93,6 +105,7 @@ impl Tree {
 
     /// The hashes touched since a generation and version go into the first
     /// places of a list; gives how many, or none if they are not to be had.
+    /// Refused: 13 LIST, where the list is too short for them.
     pub fn changes_into(&self, generation: u64, version: u64, list: &mut [Hash]) -> Result<Option<usize>, Refusal> {
         let mut bytes: Vec<u8> = list.iter().flat_map(|hash| hash.0).collect();
         let mut out = [0; 2];
@@ -113,8 +126,9 @@ impl Tree {
     }
 
     /// Brings linked and canonical linked values, both best blocks, leaves and
-    /// counts up to the records and answers now held; closes loading, and frees
-    /// the room of hashes that no store holds.
+    /// counts up to the records now held; closes loading, and frees the room of
+    /// hashes that no store holds. Blocks that it works out anew see the answers
+    /// now held; others keep what they saw.
     pub fn sync(&mut self) {
         never(boundary::sync(&mut self.memory));
     }
@@ -199,7 +213,8 @@ impl Tree {
     /// The hashes of the leaves, linked blocks that are no linked block's
     /// parent, go into the first places of a list, by rising hash; gives how
     /// many. (What the tree stands for does not change; it is lent to be written
-    /// because words of its memory help to put the list in order.)
+    /// because words of its memory help to put the list in order.) Refused: 12
+    /// STALE, and 13 LIST where the list is too short for them.
     pub fn leaves_into(&mut self, list: &mut [Hash]) -> Result<usize, Refusal> {
         let mut bytes: Vec<u8> = list.iter().flat_map(|hash| hash.0).collect();
         let mut out = [0; 2];
@@ -221,7 +236,9 @@ impl Tree {
 
     /// Whether to stand on the best block. A [`Plan::Scan`] says that the tree
     /// cannot tell; otherwise the entries, by index and then hash, are the
-    /// blocks that change, each with its marks as they stand after the plan.
+    /// blocks that the plan wrote, each with its marks as they stand after it
+    /// (one may end as it was). `changed` is 1 after a switch to the best block
+    /// or a demotion, else 0.
     ///
     /// ```
     /// use cadraspes::{Block, Entry, Hash, Marks, Plan, Refusal, Terms, Tree};
@@ -250,12 +267,14 @@ impl Tree {
 
     /// The same with a list that is lent, which must have a place for each live
     /// block: entries go into its first places. Gives `changed` and how many;
-    /// none is [`Plan::Scan`].
+    /// none is [`Plan::Scan`]. Refused: 12 STALE, and 13 LIST where the list is
+    /// shorter.
     pub fn select_into(&mut self, terms: &Terms, list: &mut [Entry]) -> Result<Option<(u64, usize)>, Refusal> {
         self.planned_into(boundary::select, terms, list)
     }
 
-    /// Whether to take a branch that grew beside the canonical line. As
+    /// Whether to take a branch that grew beside the canonical line. `changed`
+    /// is how many of its blocks were safe to take, 0 where none won. As
     /// [`Tree::select`] otherwise.
     pub fn adopt(&mut self, terms: &Terms) -> Result<Plan, Refusal> {
         self.planned(boundary::adopt, terms)

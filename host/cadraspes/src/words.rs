@@ -111,9 +111,13 @@ pub fn copy_words(marks: &Marks) -> CopyWords {
     words
 }
 
-/// What twelve words of a copy mean.
+/// What twelve words of a copy mean. A state of 0 has none of what the other
+/// words say.
 pub fn copy_of(words: &[u64]) -> Marks {
-    let flags = words[0].saturating_sub(1);
+    if words[0] == 0 {
+        return Marks::default();
+    }
+    let flags = words[0] - 1;
     Marks {
         orphaned: flags & 1 > 0,
         canonical: flags & 2 > 0,

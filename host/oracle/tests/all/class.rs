@@ -33,7 +33,7 @@ fn pages_show_what_is_recorded() {
         assert_eq!(history, text(&file));
         assert_eq!(answers, text(&file.with_extension("answers")), "{}", file.display());
         let name = file.file_stem().expect("a name").to_string_lossy();
-        assert_eq!(commands.matches(&format!("< ../histories/class/{name}.txt ")).count(), 2, "{name}");
+        assert_eq!(commands.matches(&format!(" histories/class/{name}.txt ")).count(), 2, "{name}");
         assert!(readme.contains(&format!("(histories/class/{name}.md)")), "README.md has no link to {name}");
     }
 }
