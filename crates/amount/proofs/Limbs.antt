@@ -99,6 +99,11 @@ module _ (x d p q : ℕ) (e : p ≡ x % 4294967296 * 10 + d) (f : q ≡ x / 4294
   unfolding fromWords
   ten y = let g = ten-low in omega (arith, g)
 
+-- .. and with no high word there is none to look after
+pub ten-small : (x y d : ℕ) → y ≡ 0 → fromWords (x * 10 + d) 0 ≡ fromWords x y * 10 + d
+unfolding fromWords
+ten-small x y d e = omega arith
+
 pub ten-over : (y c : ℕ) → c < 10 → (18446744073709551615 - c) / 10 < y → 2 ^ 64 ≤ y * 10 + c
 ten-over y c b l = omega arith
 

@@ -11,6 +11,9 @@ const MAX: u64 = 0xffff_ffff_ffff_ffff;
 // Half of a word: 2^32.
 const HALF: u64 = 4294967296;
 
+// The largest word that is still a word with any digit written after it: ten times it and nine more is 2^64 - 7.
+const SMALL: u64 = 1844674407370955160;
+
 pub struct Amount {
     limb0: u64,
     limb1: u64,
@@ -172,6 +175,12 @@ fn times_ten_words(x: u64, y: u64, digit: u8) -> Sum
     requires { ⌜ digit < 10 ⌝ }
     ensures { λ r. ⌜ Added (fromWords x y * 10 + digit) r ⌝ }
 {
+    // nearly every amount is one word, and needs no halves
+    if y == 0 {
+        if x <= SMALL {
+            return Sum::Fits(from_words(x * 10 + digit as u64, 0));
+        }
+    }
     let p = (x % HALF) * 10 + digit as u64;
     let q = (x / HALF) * 10 + p / HALF;
     let carry = q / HALF;

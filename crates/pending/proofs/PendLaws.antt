@@ -183,6 +183,16 @@ module _ (m m′ : List ℕ) (n p : ℕ) (laid : Laid m n) (p<n : p < n) (s : St
   pub add-done : Turns m m′ n (Used m p) (λ pend q. pend q || eqb q p)
   add-done = record { only = struck-only m m′ n p 1 laid p<n s; right = λ _ u pend a. added u pend a }
 
+-- .. which changes nothing where it was pending: its turn and its block are right already
+pub add-again : (m : List ℕ) (n p : ℕ) → word m (row p + 59) ≡ 1 → Turns m m n (Used m p) (λ pend q. pend q || eqb q p)
+add-again m n p marked = record { only = pend-same m n; right = λ _ _ pend a. pends-same m n pend (λ q. pend q || eqb q p) (same pend a) a }
+  where
+    same : (pend : Pending) → Pends m n pend → (q : ℕ) → q < n → pend q ≡ (pend q || eqb q p)
+    same pend a q h =
+        byBool (eqb q p)
+        (λ e. let z : q ≡ p = eqb-true q p e in sym (a .members q h) ∙ ap (enters m 2) z ∙ enters-yes m 2 p (omega arith) ∙ rw e (sym (or-true (pend q))))
+        (λ e. rw e (sym (or-none (pend q))))
+
 -- place p is pending no more
 module _ (m m′ : List ℕ) (n p : ℕ) (laid : Laid m n) (p<n : p < n) (s : Struck m m′ n p 0) where
   module _ (pend : Pending) (a : Pends m n pend) where

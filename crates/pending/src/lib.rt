@@ -35,11 +35,14 @@ fn turn(mem: &[u64], n: usize, p: usize) -> u64
     0
 }
 
-// Place p becomes pending.
+// Place p becomes pending. Where it is so already its turn stands too, and no game of the contest would end otherwise.
 pub fn add(mem: &mut [u64], n: usize, p: usize)
     requires { ⌜ Laid (now mem) n × (p < n) ⌝ }
     ensures { λ _. ⌜ Turns (now (mem .entry)) (now (mem .exit)) n (Used (now (mem .entry)) p) (λ pend q. pend q || eqb q p) ⌝ }
 {
+    if mem[64 + 68 * p + 59] == 1 {
+        return;
+    }
     let t = turn(mem, n, p);
     mem[64 + 68 * p + 3] = t;
     mem[64 + 68 * p + 59] = 1;
