@@ -7,9 +7,11 @@ use Prim.Native.Nat.{ℕ, suc, _+_, _≤_, _<_}
 use native.Mathlib.Omega.{arith}
 use lib.Dec.{eqb}
 use Rattle.amount.specs.Choose.{_if_else_}
-use Rattle.hash.specs.Hashes.{join}
-use Rattle.block.specs.Words.{headerOf}
-use Rattle.memory.specs.Words.{word}
+use borrow.Author.Tests.{le-ltb}
+use Rattle.hash.specs.Hashes.{limb, join}
+use Rattle.hash.proofs.HashLaws.{Words, same-join}
+use Rattle.block.specs.Words.{quad, headerOf}
+use Rattle.memory.specs.Words.{word, seg, sameFour}
 use Rattle.memory.specs.Layout.{row}
 use Rattle.model.specs.Places.{first}
 use Rattle.model.specs.Holding.{Held, Cell, free, held, Holdings, hasRoom, isLive, placeOf}
@@ -19,7 +21,7 @@ use Rattle.model.proofs.Parent.{Distinct}
 use Rattle.rows.specs.Rows.{headerAt, heldAt}
 use Rattle.state.specs.View.{cellsOf, viewAt}
 use Rattle.state.specs.Sound.{SoundAt, Used, placed}
-use Rattle.state.proofs.FindLaws.{placed-in, placed-out, used-is, free-is, cell-hash}
+use Rattle.state.proofs.FindLaws.{placed-in, placed-out, used-is, free-is, cell-hash, place-at}
 
 -- ---- in the model ----
 
@@ -83,15 +85,58 @@ module _ (m : List ℕ) (p : ℕ) where
   unfolding headerAt headerOf
   index-is = ap (word m) (omega arith)
 
+-- ---- the place of the previous hash ----
+
+-- four words are another four exactly if the hashes are the same
+four-same : (a b c d a′ b′ c′ d′ : ℕ) → Words a b c d → Words a′ b′ c′ d′ → (eqb a a′ && eqb b b′ && eqb c c′ && eqb d d′) ≡ eqb (join a b c d) (join a′ b′ c′ d′)
+four-same a b c d a′ b′ c′ d′ w w′ = ends (eqb a a′) (eqb b b′) (eqb c c′) (eqb d d′) ∙ same-join a b c d a′ b′ c′ d′ w w′
+  where
+    ends : (x y z t : Bool) → (x && y && z && t) ≡ (x && (y && (z && (t && true))))
+    ends false y z t = refl
+    ends true false z t = refl
+    ends true true false t = refl
+    ends true true true false = refl
+    ends true true true true = refl
+
+module _ (m : List ℕ) (n p : ℕ) where
+  -- a place from n on, or one that is free, has no room for it
+  pub room-out : (u : ℕ) → n ≤ u → false ≡ hasRoom (headerAt m (row p + 4) .prev) (cellsOf m n u)
+  unfolding hasRoom
+  room-out u i = rw (le-ltb u n i)
+
+  pub room-free : (u : ℕ) → u < n → (Used m u → ⊥) → false ≡ hasRoom (headerAt m (row p + 4) .prev) (cellsOf m n u)
+  unfolding hasRoom
+  room-free u i z = rw (free-is m n u i z)
+
+  -- one in use has, if the four words of its hash are those
+  pub room-words : ((i : ℕ) → word m i < limb) → (u : ℕ) → u < n → Used m u → (r : Bool)
+      → r ≡ sameFour (seg m (row u + 4) 4) (quad (word m (row p + 8)) (word m (row p + 9)) (word m (row p + 10)) (word m (row p + 11)))
+      → r ≡ hasRoom (headerAt m (row p + 4) .prev) (cellsOf m n u)
+  unfolding hasRoom headerAt headerOf
+  room-words wide u i z r e =
+      let k =
+      four-same (word m (row u + 4 + 0)) (word m (row u + 4 + 1)) (word m (row u + 4 + 2)) (word m (row u + 4 + 3)) (word m (row p + 8)) (word m (row p + 9)) (word m (row p + 10)) (word m (row p + 11))
+      (record { first = wide (row u + 4 + 0); second = wide (row u + 4 + 1); third = wide (row u + 4 + 2); fourth = wide (row u + 4 + 3) })
+      (record { first = wide (row p + 8); second = wide (row p + 9); third = wide (row p + 10); fourth = wide (row p + 11) })
+      in
+      rw (used-is m n u i z) (e ∙ k ∙ ap (eqb (headerAt m (row u + 4) .hash)) (prev-is m p))
+
+  pub by-words : (q : ℕ) → placeOf (viewAt m n .holdings) (join (word m (row p + 8)) (word m (row p + 9)) (word m (row p + 10)) (word m (row p + 11))) ≡ placed n q
+      → placeOf (viewAt m n .holdings) (headerAt m (row p + 4) .prev) ≡ placed n q
+  by-words q found = ap (placeOf (viewAt m n .holdings)) (sym (prev-is m p)) ∙ found
+
+  -- a hash has one place
+  pub by-room : SoundAt m n → (x u : ℕ) → hasRoom x (cellsOf m n u) ≡ true → placeOf (viewAt m n .holdings) x ≡ placed n u
+  by-room s x u e = let k = cell-hash m n u x e in place-at m n s u x (k .0) (k .1) (k .2) ∙ sym (placed-in n u (k .0))
+
+-- ---- the parent ----
+
 module _ (m : List ℕ) (n p : ℕ) (below : p < n) where
   pub parent-free : (Used m p → ⊥) → parent (viewAt m n .holdings) p ≡ placed n n
   unfolding viewAt
   parent-free u = free-parent (viewAt m n .holdings) p (free-is m n p below u) ∙ sym (placed-out n n (omega arith))
 
-  module _ (u : Used m p) (s : SoundAt m n) (q : ℕ) (found : placeOf (viewAt m n .holdings) (join (word m (row p + 8)) (word m (row p + 9)) (word m (row p + 10)) (word m (row p + 11))) ≡ placed n q) where
-    by-prev : placeOf (viewAt m n .holdings) (headerAt m (row p + 4) .prev) ≡ placed n q
-    by-prev = ap (placeOf (viewAt m n .holdings)) (sym (prev-is m p)) ∙ found
-
+  module _ (u : Used m p) (s : SoundAt m n) (q : ℕ) (by-prev : placeOf (viewAt m n .holdings) (headerAt m (row p + 4) .prev) ≡ placed n q) where
     pub parent-out : n ≤ q → parent (viewAt m n .holdings) p ≡ placed n n
     unfolding viewAt
     parent-out i = parent-nowhere (viewAt m n .holdings) (sound-distinct m n s) p (heldAt m (row p)) (used-is m n p below u) (by-prev ∙ placed-out n q i) ∙ sym (placed-out n n (omega arith))

@@ -2,15 +2,17 @@
 // rule over two spines; `canonical` says which is meant.
 ghost use mathlib.Core.Bool.{_&&_};
 ghost use mathlib.Core.Path.{_≡_};
-ghost use Prim.Native.Nat.{suc, _+_, _<_};
+ghost use Prim.Native.Nat.{suc, _+_, _*_, _<_};
 ghost use lib.Dec.{eqb, ltb, leb};
 ghost use Rattle.amount.specs.Choose.{_if_else_};
 ghost use Rattle.amount.specs.Value.{meant, value};
-ghost use Rattle.memory.specs.Layout.{Laid};
+ghost use Rattle.memory.specs.Layout.{Laid, row};
+ghost use Rattle.model.specs.Holding.{hasRoom, placeOf};
 ghost use Rattle.model.specs.Record.{Header as Headed};
 ghost use Rattle.model.specs.Relink.{workOut};
 ghost use Rattle.model.specs.Standing as model;
 ghost use Rattle.model.specs.Standing.{meetsTarget, onActual, onParent, parent as parentOf, valueAt};
+ghost use Rattle.rows.specs.Rows.{headerAt};
 ghost use Rattle.values.specs.Values.{spineOf, valueMeans};
 ghost use Rattle.standing.specs.Work.{mayStand};
 ghost use Rattle.state.specs.Sound.{SoundAt, placed};
@@ -37,6 +39,43 @@ fn one_less(j: u64, i: u64) -> bool
     i - 1 == j
 }
 
+// Whether the place u, which may be any number, has room for the previous hash of the block at p.
+fn has_named(mem: &[u64], n: usize, p: usize, u: usize) -> bool
+    requires { ⌜ Laid (now mem) n × (p < n) ⌝ }
+    ensures { λ r. ⌜ r ≡ hasRoom (headerAt (now (mem .entry)) (row p + 4) .prev) (cellsOf (now (mem .entry)) n u) ⌝ }
+{
+    if n <= u {
+        return false;
+    }
+    let up = 64 + 68 * u;
+    if mem[up] != 1 {
+        return false;
+    }
+    let at = 64 + 68 * p;
+    memory::same_four(
+        mem,
+        up + 4,
+        mem[at + 8],
+        mem[at + 9],
+        mem[at + 10],
+        mem[at + 11],
+    )
+}
+
+// The place of the previous hash of the block at p, or a number from n on. Word 67 of the row says where the parent stood when p was last worked
+// out: a hash has one place, so where that place still has it there is nothing to look up.
+fn named(mem: &[u64], n: usize, p: usize) -> usize
+    requires { ⌜ Laid (now mem) n × (p < n) ⌝ }
+    ensures { λ r. ⌜ (SoundAt (now (mem .entry)) n → placeOf (viewAt (now (mem .entry)) n .holdings) (headerAt (now (mem .entry)) (row p + 4) .prev) ≡ placed n r) ⌝ }
+{
+    let at = 64 + 68 * p;
+    let u = mem[at + 67] as usize;
+    if has_named(mem, n, p, u) {
+        return u;
+    }
+    state::find(mem, n, mem[at + 8], mem[at + 9], mem[at + 10], mem[at + 11])
+}
+
 // The place of the parent, or a number from n on.
 pub fn parent(mem: &[u64], n: usize, p: usize) -> usize
     requires { ⌜ Laid (now mem) n × (p < n) ⌝ }
@@ -46,7 +85,7 @@ pub fn parent(mem: &[u64], n: usize, p: usize) -> usize
     if mem[at] != 1 {
         return n;
     }
-    let q = state::find(mem, n, mem[at + 8], mem[at + 9], mem[at + 10], mem[at + 11]);
+    let q = named(mem, n, p);
     if n <= q {
         return n;
     }
