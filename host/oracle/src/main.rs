@@ -144,22 +144,23 @@ fn fuzz(from: u64, to: u64, program: &[&str]) -> bool {
 }
 
 /// How many histories, from which seed, of which profiles.
-fn compare_options<'a>(options: &[&'a str]) -> (u64, u64, Vec<&'a str>) {
+fn compare_options<'a>(options: &[&'a str], beside: &[&str]) -> (u64, u64, Vec<&'a str>) {
     let (mut histories, mut seed, mut profiles) = (1000, 0, Vec::new());
     for option in options.chunks(2) {
         match option {
             ["--histories", count] => histories = number(count),
             ["--seed", from] => seed = number(from),
-            ["--profile", profile] if PROFILES.contains(profile) => profiles.push(*profile),
-            ["--profile", profile @ (HOLDINGS | FULL)] => profiles.push(*profile),
+            ["--profile", profile] if PROFILES.contains(profile) || beside.contains(profile) => profiles.push(*profile),
             _ => usage(),
         }
     }
     (histories, seed, profiles)
 }
 
+/// The original against the reading, which asks everything after every sync:
+/// too much for full size.
 fn print_compared(options: &[&str]) -> bool {
-    let (histories, seed, profiles) = compare_options(options);
+    let (histories, seed, profiles) = compare_options(options, &[HOLDINGS]);
     if !at_hand() {
         return print_all(&format!("{NOT_AT_HAND}\n"));
     }
@@ -171,7 +172,7 @@ fn print_compared(options: &[&str]) -> bool {
 
 /// The library against the original and the reading.
 fn print_library(options: &[&str]) -> bool {
-    let (histories, seed, profiles) = compare_options(options);
+    let (histories, seed, profiles) = compare_options(options, &[HOLDINGS, FULL]);
     if !cadraspes::linked() {
         return print_all(&format!("{}\n", cadraspes::NOT_LINKED));
     }

@@ -2,7 +2,7 @@
 //! page ends, and neither the page behind it nor the page before can be read
 //! or written. A call that looks past an end ends the test program.
 #![allow(unsafe_code)]
-use crate::bad_memory::{name, sound};
+use crate::bad_memory::{forked, linked, name, sound};
 use crate::common::{with_library, Rng};
 use cadraspes::boundary::{self, Record};
 use cadraspes::Terms;
@@ -66,8 +66,11 @@ impl Drop for Lent {
 fn every_call(memory: &[u64], rng: &mut Rng) -> usize {
     let mut memory = Lent::words(memory);
     let mut hash = Lent::new(&name(rng.below(9)).0);
-    let (mut prev, mut copy) = (Lent::new(&name(1).0), Lent::words(&[8, 2, 5, 1, 1, 1, 1, 1, 1, 1, 1, 1]));
+    let shift = rng.pick(&[0, 60, 61]);
+    let any: [u64; 12] = std::array::from_fn(|_| rng.next() >> shift);
+    let (mut prev, mut copy) = (Lent::new(&name(1).0), Lent::words(&any));
     let (mut target, mut actual) = (Lent::new(b"1"), Lent::new(b"00000000000000000000000000000000000000001"));
+    let mut text = Lent::new(&(0..rng.below(60)).map(|_| b'0' + rng.below(11) as u8).collect::<Vec<u8>>());
     let (mut shown, mut number, mut two) = (Lent::words(&[0; 29]), Lent::words(&[0]), Lent::words(&[0; 2]));
     let (mut three, mut list) = (Lent::words(&[0; 3]), Lent::new(&vec![0; rng.below(300) as usize]));
     let three: &mut [u64; 3] = three.as_words().try_into().expect("3 words");
@@ -78,6 +81,9 @@ fn every_call(memory: &[u64], rng: &mut Rng) -> usize {
     let record = Record { hash, index: 0, epoch: 0, prev, target: target.bytes(), actual: actual.bytes(), copy };
     let (mut side, mut six) = (Lent::words(&[rng.below(2), 5, 0, 7]), Lent::words(&[0; 6]));
     let side: &[u64; 4] = (&*side.as_words()).try_into().expect("4 words");
+    let mut peer = Lent::words(&[rng.below(3), 5, rng.below(2), 6 + rng.below(3)]);
+    let peer: &[u64; 4] = (&*peer.as_words()).try_into().expect("4 words");
+    assert!(boundary::covers(any[0], any[1], any[2]) <= 1);
     let six: &mut [u64; 6] = six.as_words().try_into().expect("6 words");
     let mut entries = Lent::words(&vec![0; 16 * rng.below(9) as usize]);
     let entries = entries.as_words().as_chunks_mut::<16>().0;
@@ -95,7 +101,9 @@ fn every_call(memory: &[u64], rng: &mut Rng) -> usize {
         boundary::answer(mem, hash, rng.below(3)),
         boundary::remove(mem, rng.below(3), hash),
         boundary::amount(record.actual, three),
+        boundary::amount(text.bytes(), three),
         boundary::choose(side, hash, side, prev, six),
+        boundary::choose(side, hash, peer, prev, six),
         boundary::select(mem, &terms, entries, three),
         boundary::sync(mem),
         boundary::node(mem, hash, shown),
@@ -120,17 +128,17 @@ fn nothing_outside_is_read() {
     if !with_library() {
         return;
     }
-    let (sound, mut rng) = (sound(), Rng(7));
+    let (sounds, mut rng) = ([sound(), linked(), forked()], Rng(7));
     let mut accepted = 0;
-    for turn in 0..1500 {
-        let mut words = sound.0.shown().to_vec();
-        for _ in 0..turn % 4 {
+    for turn in 0..3600 {
+        let mut words = sounds[turn % 3].0.shown().to_vec();
+        for _ in 0..turn / 3 % 4 {
             let at = rng.below(words.len() as u64) as usize;
             words[at] = rng.next() >> rng.pick(&[0, 1, 32, 61, 62]);
         }
         accepted += every_call(&words, &mut rng);
     }
-    assert!(accepted > 15_000, "{accepted} calls were accepted");
+    assert!(accepted > 40_000, "{accepted} calls were accepted");
     for words in 0..200 {
         every_call(&vec![rng.pick(&[0, 1, u64::MAX]); words], &mut rng);
     }
