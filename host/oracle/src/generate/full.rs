@@ -157,7 +157,7 @@ impl Gen {
             if self.rng.percent(8) {
                 self.full_answer(name, line);
             }
-            // While loading is open a refused put might be taken, and close it.
+            // Not while loading is open: a put meant to be refused may be taken, and close it.
             if !self.loads && self.rng.below(600) == 0 {
                 self.refuse();
             }
@@ -227,10 +227,7 @@ impl Gen {
             match round % 4 {
                 1 => self.cycle(),
                 3 => drop(self.plan(self.lines % 2 == 0)),
-                _ => ["best", "cbest", "ccount", "leaves"]
-                    .map(str::to_string)
-                    .into_iter()
-                    .for_each(|ask| drop(self.emit(ask))),
+                _ => ["best", "cbest", "ccount", "leaves"].iter().for_each(|ask| drop(self.emit(*ask))),
             }
         }
     }
