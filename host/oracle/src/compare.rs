@@ -2,6 +2,7 @@
 use crate::coverage::Coverage;
 use crate::generate::{generate, PROFILES};
 use crate::judge::Judge;
+use crate::many::many;
 use crate::shrink::shrink;
 use std::collections::BTreeMap;
 
@@ -16,6 +17,11 @@ pub struct Compared {
 }
 
 impl Compared {
+    /// What is told on the way.
+    pub fn so_far(&self, count: u64) -> String {
+        format!("{} of {count} histories, {} calls: no difference so far", self.histories, self.calls)
+    }
+
     pub fn summary(&self) -> String {
         let found = if self.difference.is_some() { "a difference" } else { "no difference" };
         format!("{} histories, {} calls, {} syncs: {found}", self.histories, self.calls, self.syncs)
@@ -23,23 +29,32 @@ impl Compared {
 }
 
 /// Runs `count` histories, spread evenly over the profiles, until one differs.
+/// `progress` hears of every twentieth part, and of every 500.
 pub fn compare(count: u64, seed: u64, profiles: &[&str], progress: &dyn Fn(&Compared)) -> Compared {
-    let mut compared = Compared::default();
-    for at in 0..count {
-        let (seed, profile) = (seed + at / profiles.len() as u64, profiles[(at % profiles.len() as u64) as usize]);
-        let history = generate(seed, profile).expect("a profile");
-        let (judge, answered) = Judge::run(history.as_bytes(), true);
+    let of = |at: u64| (seed + at / profiles.len() as u64, profiles[(at % profiles.len() as u64) as usize]);
+    let step = (count / 20).clamp(1, 500);
+    let run = |at: u64| {
+        let (seed, profile) = of(at);
+        let (judge, answered) = Judge::run(generate(seed, profile).expect("a profile").as_bytes(), true);
+        let syncs = judge.coverage.0.get("call sync").copied().unwrap_or(0);
+        (!judge.differences.is_empty() || judge.outside.is_some(), answered.len() as u64, syncs)
+    };
+    let (mut compared, mut wrong) = (Compared::default(), None);
+    many(count, run, |at, (differs, calls, syncs)| {
         compared.histories += 1;
-        compared.calls += answered.len() as u64;
-        compared.syncs += judge.coverage.0.get("call sync").copied().unwrap_or(0);
-        if !judge.differences.is_empty() || judge.outside.is_some() {
-            compared.difference = Some(describe(history.as_bytes(), &format!("oracle gen {seed} {profile}")));
-            return compared;
-        }
-        if compared.histories % 500 == 0 {
+        compared.calls += calls;
+        compared.syncs += syncs;
+        if compared.histories % step == 0 && !differs {
             progress(&compared);
         }
-    }
+        wrong = differs.then_some(at);
+        !differs
+    });
+    let described = |(seed, profile)| {
+        let history = generate(seed, profile).expect("a profile");
+        describe(history.as_bytes(), &format!("oracle gen {seed} {profile}"))
+    };
+    compared.difference = wrong.map(of).map(described);
     compared
 }
 

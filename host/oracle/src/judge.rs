@@ -53,15 +53,18 @@ pub struct Judge {
     pub differences: Vec<Difference>,
     /// The first line that left the domain of the comparison.
     pub outside: Option<usize>,
+    /// Which ways calls went, counted unless `counting` is off: it asks the
+    /// reading for every plan once more.
     pub coverage: Coverage,
+    counting: bool,
     /// Every hash that was put or named as a previous hash.
     known: BTreeSet<Hash>,
 }
 
 impl Judge {
-    /// Of the original.
+    /// Of the original, with nothing counted.
     pub fn of_original() -> Judge {
-        Judge::new(start_original, false)
+        Judge { counting: false, ..Judge::new(start_original, false) }
     }
 
     pub fn new(start: Start, sweep: bool) -> Judge {
@@ -74,6 +77,7 @@ impl Judge {
             differences: Vec::new(),
             outside: None,
             coverage: Coverage::default(),
+            counting: true,
             known: BTreeSet::new(),
         }
     }
@@ -102,7 +106,8 @@ impl Judge {
     /// The original's answer, or the reading's where the call is refused or
     /// the original is not at hand.
     pub fn call(&mut self, call: &Call) -> Answer {
-        let rebuilds = *call == Call::Sync && self.watched.reading().is_some_and(Reading::rebuilds);
+        let counted = self.counting && *call == Call::Sync;
+        let rebuilds = counted && self.watched.reading().is_some_and(Reading::rebuilds);
         let in_time = self.watched.domain.in_time();
         let mut answer = self.watched.call(call);
         if self.watched.domain.left.is_some() {
@@ -111,13 +116,13 @@ impl Judge {
         match answer {
             Answer::NoCall(_) => return answer,
             Answer::Refused(number) => {
-                self.coverage.count(format!("refused {number:2} by {}", call.name()));
+                self.count(|| format!("refused {number:2} by {}", call.name()));
                 if number == Refusal::List.number() {
                     self.compare_questions(std::slice::from_ref(call), "unlent");
                 }
                 return answer;
             }
-            _ => self.coverage.count(format!("call {}", call.name())),
+            _ => self.count(|| format!("call {}", call.name())),
         }
         shims::take_log();
         if let Some(theirs) = self.mirror(call) {
@@ -126,11 +131,19 @@ impl Judge {
             }
             answer = theirs;
         }
-        self.cover(call, &answer, rebuilds, in_time);
+        if self.counting {
+            self.cover(call, &answer, rebuilds, in_time);
+        }
         if self.sweep && *call == Call::Sync {
             self.compare_trees();
         }
         answer
+    }
+
+    fn count(&mut self, what: impl FnOnce() -> String) {
+        if self.counting {
+            self.coverage.count(what());
+        }
     }
 
     /// Makes an accepted call on the original; its answer to a question.
@@ -189,11 +202,12 @@ impl Judge {
         };
         let same = reading.from_scratch() == reading.view;
         let in_time = self.watched.domain.in_time();
-        self.coverage.count(match (in_time, same) {
+        let told = match (in_time, same) {
             (true, _) => "sync compared from scratch",
             (false, true) => "sync after a late answer, as from scratch all the same",
             (false, false) => "sync after a late answer, not as from scratch",
-        });
+        };
+        self.count(|| told.to_string());
         if in_time && !same {
             let (line, what) = (self.line, "after the sync, in time: the tree".to_string());
             let (reading, original) = ("as from scratch".to_string(), "not so".to_string());

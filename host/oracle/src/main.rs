@@ -1,7 +1,7 @@
 //! oracle: histories on the original and on the reading of document 01.
 use oracle::check::{before, first_difference, program_differs};
 use oracle::compare::{compare, cover, describe, differs, profiles_or_all, Compared};
-use oracle::generate::{generate, overrun, HOLDINGS, PROFILES};
+use oracle::generate::{generate, overrun, FULL, HOLDINGS, PROFILES};
 use oracle::judge::{at_hand, Answered, Judge, NOT_AT_HAND};
 use oracle::library;
 use oracle::shrink::shrink;
@@ -43,7 +43,7 @@ fn main() {
 }
 
 fn usage() -> ! {
-    eprintln!("{USAGE}\nprofiles: {} {HOLDINGS} (default mixed), overrun", PROFILES.join(" "));
+    eprintln!("{USAGE}\nprofiles: {} {HOLDINGS} {FULL} (default mixed), overrun", PROFILES.join(" "));
     std::process::exit(2)
 }
 
@@ -144,25 +144,27 @@ fn fuzz(from: u64, to: u64, program: &[&str]) -> bool {
 }
 
 /// How many histories, from which seed, of which profiles.
-fn compare_options<'a>(options: &[&'a str]) -> (u64, u64, Vec<&'a str>) {
+fn compare_options<'a>(options: &[&'a str], beside: &[&str]) -> (u64, u64, Vec<&'a str>) {
     let (mut histories, mut seed, mut profiles) = (1000, 0, Vec::new());
     for option in options.chunks(2) {
         match option {
             ["--histories", count] => histories = number(count),
             ["--seed", from] => seed = number(from),
-            ["--profile", profile] if PROFILES.contains(profile) || *profile == HOLDINGS => profiles.push(*profile),
+            ["--profile", profile] if PROFILES.contains(profile) || beside.contains(profile) => profiles.push(*profile),
             _ => usage(),
         }
     }
     (histories, seed, profiles)
 }
 
+/// The original against the reading, which asks everything after every sync:
+/// too much for full size.
 fn print_compared(options: &[&str]) -> bool {
-    let (histories, seed, profiles) = compare_options(options);
+    let (histories, seed, profiles) = compare_options(options, &[HOLDINGS]);
     if !at_hand() {
         return print_all(&format!("{NOT_AT_HAND}\n"));
     }
-    let progress = |so_far: &Compared| eprintln!("{}", so_far.summary());
+    let progress = |so_far: &Compared| eprintln!("{}", so_far.so_far(histories));
     let compared = compare(histories, seed, &profiles_or_all(&profiles), &progress);
     println!("{}", compared.summary());
     print_all(compared.difference.as_deref().unwrap_or("")) && compared.difference.is_none()
@@ -170,16 +172,15 @@ fn print_compared(options: &[&str]) -> bool {
 
 /// The library against the original and the reading.
 fn print_library(options: &[&str]) -> bool {
-    let (histories, seed, profiles) = compare_options(options);
+    let (histories, seed, profiles) = compare_options(options, &[HOLDINGS, FULL]);
     if !cadraspes::linked() {
-        eprintln!("{}", cadraspes::NOT_LINKED);
-        return false;
+        return print_all(&format!("{}\n", cadraspes::NOT_LINKED));
     }
     if !at_hand() {
         eprintln!("{NOT_AT_HAND}");
     }
     let profiles = if profiles.is_empty() { [&PROFILES[..], &[HOLDINGS]].concat() } else { profiles };
-    let progress = |so_far: &library::Compared| eprintln!("{}", so_far.summary());
+    let progress = |so_far: &library::Compared| eprintln!("{}", so_far.so_far(histories));
     let compared = library::compare(histories, seed, &profiles, library::library, &progress);
     println!("{}", compared.summary());
     print_all(compared.difference.as_deref().unwrap_or("")) && compared.difference.is_none()

@@ -1,41 +1,71 @@
 //! Makes a history small as long as something holds of it.
 use history::{Block, Call, Hash, Marks, Terms};
+use std::cell::Cell;
+
+/// How many bytes of histories are tried at most: small ones are done long
+/// before, and of one of full size some are left out in half an hour or so.
+const TRIED: usize = 1 << 31;
+
+/// Whether something holds of a history, as long as any may be tried.
+struct Tries<'a> {
+    holds: &'a dyn Fn(&[u8]) -> bool,
+    left: Cell<usize>,
+}
+
+impl Tries<'_> {
+    fn hold(&self, lines: &[Vec<u8>]) -> bool {
+        let history = lines.concat();
+        let left = self.left.get().checked_sub(history.len());
+        self.left.set(left.unwrap_or(0));
+        left.is_some() && (self.holds)(&history)
+    }
+
+    fn over(&self) -> bool {
+        self.left.get() == 0
+    }
+}
 
 /// Leaves out and simplifies what it can as long as `holds`; none if it does
 /// not hold to begin with.
 pub fn shrink(history: &[u8], holds: &dyn Fn(&[u8]) -> bool) -> Option<Vec<u8>> {
+    shrink_within(TRIED, history, holds)
+}
+
+/// The same with so many bytes of histories tried at most.
+pub fn shrink_within(bytes: usize, history: &[u8], holds: &dyn Fn(&[u8]) -> bool) -> Option<Vec<u8>> {
     let whole = history.split_inclusive(|byte| *byte == b'\n').filter(|line| line[0] != b'#');
     let mut lines: Vec<Vec<u8>> = whole.map(<[u8]>::to_vec).collect();
     if !holds(&lines.concat()) {
         return None;
     }
+    let tries = Tries { holds, left: Cell::new(bytes) };
     loop {
         let before = lines.clone();
-        leave_out(&mut lines, holds);
-        take_out_blocks(&mut lines, holds);
-        simplify(&mut lines, holds);
-        if lines == before {
+        leave_out(&mut lines, &tries);
+        take_out_blocks(&mut lines, &tries);
+        simplify(&mut lines, &tries);
+        if lines == before || tries.over() {
             return Some(lines.concat());
         }
     }
 }
 
 /// Leaves out runs of lines, long ones first.
-fn leave_out(lines: &mut Vec<Vec<u8>>, holds: &dyn Fn(&[u8]) -> bool) {
+fn leave_out(lines: &mut Vec<Vec<u8>>, tries: &Tries) {
     let mut size = lines.len().div_ceil(2);
     loop {
         let before = lines.len();
         let mut at = 0;
-        while at < lines.len() {
+        while at < lines.len() && !tries.over() {
             let end = (at + size).min(lines.len());
             let rest = [&lines[..at], &lines[end..]].concat();
-            if holds(&rest.concat()) {
+            if tries.hold(&rest) {
                 *lines = rest;
             } else {
                 at += size;
             }
         }
-        if size <= 1 && lines.len() == before {
+        if (size <= 1 && lines.len() == before) || tries.over() {
             return;
         }
         size = if lines.len() < before { size.min(lines.len().max(1)) } else { size.div_ceil(2) };
@@ -44,11 +74,11 @@ fn leave_out(lines: &mut Vec<Vec<u8>>, holds: &dyn Fn(&[u8]) -> bool) {
 
 /// Takes blocks out of the middle of chains: what lay above one now lies on
 /// what it lay on.
-fn take_out_blocks(lines: &mut Vec<Vec<u8>>, holds: &dyn Fn(&[u8]) -> bool) {
+fn take_out_blocks(lines: &mut Vec<Vec<u8>>, tries: &Tries) {
     let mut at = 0;
-    while at < lines.len() {
+    while at < lines.len() && !tries.over() {
         let shorter = block_of(&lines[at]).map(|out| without(lines, &out));
-        match shorter.filter(|shorter| shorter.len() < lines.len() && holds(&shorter.concat())) {
+        match shorter.filter(|shorter| shorter.len() < lines.len() && tries.hold(shorter)) {
             Some(shorter) => *lines = shorter,
             None => at += 1,
         }
@@ -83,14 +113,14 @@ fn without(lines: &[Vec<u8>], out: &Block<String>) -> Vec<Vec<u8>> {
 }
 
 /// Puts plainer calls in the place of calls.
-fn simplify(lines: &mut [Vec<u8>], holds: &dyn Fn(&[u8]) -> bool) {
+fn simplify(lines: &mut [Vec<u8>], tries: &Tries) {
     for at in 0..lines.len() {
-        let Some(mut call) = read(&lines[at]) else {
+        let Some(mut call) = read(&lines[at]).filter(|_| !tries.over()) else {
             continue;
         };
         while let Some(plainer) = plainer(&call).into_iter().find(|plainer| {
             let kept = std::mem::replace(&mut lines[at], format!("{plainer}\n").into_bytes());
-            let good = holds(&lines.concat());
+            let good = tries.hold(lines);
             if !good {
                 lines[at] = kept;
             }

@@ -30,13 +30,15 @@ fn every_call(memory: &Memory, rng: &mut Rng) -> Vec<u64> {
         numbers.push(memory.changes(generation.words[0], back, bytes).0.number);
     }
     let terms = Terms { floor: rng.pick(&[None, Some(0), Some(1)]), n: rng.below(4), clock: -7 };
+    // Lists that may be too short for what the memory is taken to hold.
+    let (bytes, places) = (rng.pick(&[0, 31, 32, 100, 32 * 9]), rng.pick(&[0, 1, 3, 5, 6, 9]));
     let calls: [Calling; 19] = [
         &|memory, hash| memory.load(0, &block(hash)),
         &|memory, hash| memory.put(1, &block(hash)),
         &|memory, hash| memory.remove(0, hash),
         &|memory, hash| memory.call(|mem| boundary::answer(mem, &hash.0, 2)),
         &|memory, hash| memory.effective(hash).number,
-        &|memory, _| memory.changes(generation.words[0], back, 32 * 9).0.number,
+        &|memory, _| memory.changes(generation.words[0], back, bytes).0.number,
         &|memory, hash| memory.block(boundary::node, hash).number,
         &|memory, hash| memory.block(boundary::parent, hash).number,
         &|memory, hash| memory.value(boundary::linked_value, hash).number,
@@ -45,9 +47,9 @@ fn every_call(memory: &Memory, rng: &mut Rng) -> Vec<u64> {
         &|memory, _| memory.tip(boundary::canonical_best).number,
         &|memory, _| memory.number(boundary::canonical_count).number,
         &|memory, _| memory.number(boundary::live_count).number,
-        &|memory, _| memory.leaves(32 * 9).0.number,
-        &|memory, _| memory.plan(boundary::select, &terms, 9).0.number,
-        &|memory, _| memory.plan(boundary::adopt, &terms, 9).0.number,
+        &|memory, _| memory.leaves(bytes).0.number,
+        &|memory, _| memory.plan(boundary::select, &terms, places).0.number,
+        &|memory, _| memory.plan(boundary::adopt, &terms, places).0.number,
         &|memory, _| memory.call(boundary::sync),
         &|memory, _| memory.call(|mem| boundary::reload(mem, u64::MAX, 3)),
     ];
@@ -74,7 +76,7 @@ fn synced(memory: &Memory, rng: &mut Rng) -> Vec<u64> {
 
 /// A memory of six hashes and five entries, all linked but one, that a sync
 /// covers.
-fn linked() -> Memory {
+pub fn linked() -> Memory {
     let mut library = Library::default();
     let mut call = |line: &str| assert_eq!(library.call(&Call::read(line).unwrap()).to_string(), "0", "{line}");
     call("start 6 5 1 0");
@@ -85,6 +87,24 @@ fn linked() -> Memory {
     call("put 1 2 1 0 8 \"1\" \"1\" - - - -");
     call("answer 4 2");
     call("sync");
+    library.memory.unwrap()
+}
+
+/// A memory of six hashes and five entries that a sync covers: a canonical line
+/// and a fork of more work beside it, so that both plans have much to do.
+pub fn forked() -> Memory {
+    let mut library = Library::default();
+    let mut told = |line: &str| library.call(&Call::read(line).unwrap()).to_string();
+    assert_eq!(told("start 6 5 1 0"), "0");
+    for block in ["8 0 0 0 \"1\" \"1\" c", "1 1 0 8 \"1\" \"1\" c", "2 2 0 1 \"1\" \"1\" c"] {
+        assert_eq!(told(&format!("load 2 {block} 3 - 5")), "0");
+    }
+    for block in ["3 1 0 8 \"1\" \"2\"", "4 2 0 3 \"1\" \"2\"", "5 3 0 4 \"1\" \"2\""] {
+        assert_eq!(told(&format!("put 0 {block} - - - -")), "0");
+    }
+    assert_eq!(told("sync"), "0");
+    assert!(told("select - 1 7").starts_with("0 apply 1 5\n"));
+    assert!(told("adopt - 1 7").starts_with("0 apply 3 5\n"));
     library.memory.unwrap()
 }
 
@@ -174,7 +194,7 @@ fn one_word_is_another() {
         return;
     }
     let mut rng = Rng(3);
-    for sound in [sound(), linked()] {
+    for sound in [sound(), linked(), forked()] {
         for at in 0..sound.0.shown().len() {
             let word = sound.0.shown()[at];
             let bits: [u64; 6] = std::array::from_fn(|_| word ^ 1 << rng.below(64));
@@ -194,10 +214,10 @@ fn many_words_are_others_again_and_again() {
     if !with_library() {
         return;
     }
-    let (sounds, mut rng) = ([sound(), linked()], Rng(4));
+    let (sounds, mut rng) = ([sound(), linked(), forked()], Rng(4));
     let length = sounds[0].0.shown().len() as u64;
-    for turn in 0..2000 {
-        let mut memory = sounds[turn % 2].clone();
+    for turn in 0..3000 {
+        let mut memory = sounds[turn % 3].clone();
         for _ in 0..6 {
             for _ in 0..1 + rng.below(4) {
                 let (at, other) = (2 + rng.below(length - 2), rng.next() >> rng.pick(&[0, 1, 32, 61, 62]));

@@ -1,7 +1,7 @@
 //! The library with guards on both sides of everything that it is lent. After
 //! each call the guards are looked at, and after a refusal that nothing that
 //! was lent has changed.
-use cadraspes::boundary::{self, EntryWords, PlannedWords, Record, ShownWords, ValueWords};
+use cadraspes::boundary::{self, EntryWords, PlannedWords, Record, ShownWords, SideWords, ValueWords};
 use cadraspes::words::{choice_of, copy_words, entry_of, reading_of, shown_of, side_words, value_of};
 use cadraspes::{room, Hash, Plan, Side, Terms};
 use history::{Answer, Block, Call};
@@ -358,13 +358,20 @@ fn listed((asked, list): (Asked, Vec<u8>)) -> Answer {
     })
 }
 
-/// What both sides cross as is in guards, and must stay as it was.
 fn chosen(local: &Side<String>, remote: &Side<String>) -> Answer {
-    let lent = [local, remote].map(|side| {
+    let sides = [local, remote].map(|side| {
         let work = side.work.as_deref().and_then(|text| text.parse().ok());
-        let words = side_words(&Side { work, index: side.index, hash: side.hash });
-        (Words::new(&words), Bytes::new(&side.hash.0))
+        (side_words(&Side { work, index: side.index, hash: side.hash }), side.hash)
     });
+    answer(chosen_of(sides), |words| {
+        let (choice, reason) = choice_of(words.try_into().expect("six words"));
+        Answer::Chosen(choice, reason)
+    })
+}
+
+/// Of sides of any words, which are in guards and must stay as they were.
+pub fn chosen_of(sides: [(SideWords, Hash); 2]) -> Asked {
+    let lent = sides.map(|(words, hash)| (Words::new(&words), Bytes::new(&hash.0)));
     let before = lent.clone();
     let mut out = Words::new(&[OUT; 6]);
     let side = |at: usize| lent[at].0.shown().try_into().expect("four words");
@@ -372,17 +379,20 @@ fn chosen(local: &Side<String>, remote: &Side<String>) -> Answer {
     let number = boundary::choose(side(0), hash(0), side(1), hash(1), out.inner().try_into().expect("six words"));
     out.check();
     assert!(lent.iter().zip(&before).all(|(now, then)| now.0 .0 == then.0 .0 && now.1 .0 == then.1 .0));
-    answer(Asked { number, words: out.shown().to_vec() }, |words| {
-        let (choice, reason) = choice_of(words.try_into().expect("six words"));
-        Answer::Chosen(choice, reason)
-    })
+    Asked { number, words: out.shown().to_vec() }
 }
 
 fn amount(text: &str) -> Answer {
-    let (lent, mut out) = (Bytes::new(text.as_bytes()), Words::new(&[OUT; 3]));
+    answer(amount_of(text.as_bytes()), |words| Answer::Amount(reading_of(words[0], &words[1..])))
+}
+
+/// Of bytes of any kind, which must stay as they were.
+pub fn amount_of(text: &[u8]) -> Asked {
+    let (lent, mut out) = (Bytes::new(text), Words::new(&[OUT; 3]));
     let number = boundary::amount(lent.shown(), out.inner().try_into().expect("three words"));
     out.check();
-    answer(Asked { number, words: out.shown().to_vec() }, |words| Answer::Amount(reading_of(words[0], &words[1..])))
+    assert!(lent.0 == Bytes::new(text).0, "what is only read was written");
+    Asked { number, words: out.shown().to_vec() }
 }
 
 #[test]

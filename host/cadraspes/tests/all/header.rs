@@ -104,9 +104,14 @@ fn type_as_c(argument: &str) -> &'static str {
     }
 }
 
+/// The functions that the header declares, with their arguments.
+pub fn declared() -> BTreeMap<String, Vec<String>> {
+    functions(&header(), "\nuint64_t ")
+}
+
 #[test]
 fn the_boundary_calls_what_the_header_declares() {
-    let in_c = functions(&header(), "\nuint64_t ");
+    let in_c = declared();
     let boundary = functions(&text("host/cadraspes/src/boundary.rs"), "    fn ");
     assert_eq!(in_c.keys().collect::<Vec<_>>(), boundary.keys().collect::<Vec<_>>());
     for (name, arguments) in &in_c {
@@ -119,7 +124,7 @@ fn the_boundary_calls_what_the_header_declares() {
 #[test]
 fn the_library_exports_what_the_header_declares() {
     let exported = functions(&text("crates/cadraspes/src/lib.rt"), "\npub extern \"C\" fn ");
-    let in_c = functions(&header(), "\nuint64_t ");
+    let in_c = declared();
     assert!(!in_c.is_empty());
     assert_eq!(in_c.keys().collect::<BTreeSet<_>>(), exported.keys().collect::<BTreeSet<_>>());
 }

@@ -1,6 +1,7 @@
 //! The library over its boundary: refusals, lists and words with everything
 //! that is lent between guards, and memory that no call left. And the program
 //! with its drawings.
+mod any_words;
 mod bad_memory;
 mod common;
 mod comparison;

@@ -2,7 +2,7 @@
 //! page ends, and neither the page behind it nor the page before can be read
 //! or written. A call that looks past an end ends the test program.
 #![allow(unsafe_code)]
-use crate::bad_memory::{name, sound};
+use crate::bad_memory::{forked, linked, name, sound};
 use crate::common::{with_library, Rng};
 use cadraspes::boundary::{self, Record};
 use cadraspes::Terms;
@@ -62,11 +62,13 @@ impl Drop for Lent {
     }
 }
 
-/// Every call on a memory, one after the other; gives how many were accepted.
+/// Every call that is lent a memory, one after the other on the same; gives how many were accepted.
 fn every_call(memory: &[u64], rng: &mut Rng) -> usize {
     let mut memory = Lent::words(memory);
     let mut hash = Lent::new(&name(rng.below(9)).0);
-    let (mut prev, mut copy) = (Lent::new(&name(1).0), Lent::words(&[8, 2, 5, 1, 1, 1, 1, 1, 1, 1, 1, 1]));
+    let shift = rng.pick(&[0, 60, 61]);
+    let any: [u64; 12] = std::array::from_fn(|_| rng.next() >> shift);
+    let (mut prev, mut copy) = (Lent::new(&name(1).0), Lent::words(&any));
     let (mut target, mut actual) = (Lent::new(b"1"), Lent::new(b"00000000000000000000000000000000000000001"));
     let (mut shown, mut number, mut two) = (Lent::words(&[0; 29]), Lent::words(&[0]), Lent::words(&[0; 2]));
     let (mut three, mut list) = (Lent::words(&[0; 3]), Lent::new(&vec![0; rng.below(300) as usize]));
@@ -76,9 +78,6 @@ fn every_call(memory: &[u64], rng: &mut Rng) -> usize {
     let hash: &[u8; 32] = (&*hash.bytes()).try_into().expect("32 bytes");
     let (prev, copy) = ((&*prev.bytes()).try_into().expect("32"), (&*copy.as_words()).try_into().expect("12"));
     let record = Record { hash, index: 0, epoch: 0, prev, target: target.bytes(), actual: actual.bytes(), copy };
-    let (mut side, mut six) = (Lent::words(&[rng.below(2), 5, 0, 7]), Lent::words(&[0; 6]));
-    let side: &[u64; 4] = (&*side.as_words()).try_into().expect("4 words");
-    let six: &mut [u64; 6] = six.as_words().try_into().expect("6 words");
     let mut entries = Lent::words(&vec![0; 16 * rng.below(9) as usize]);
     let entries = entries.as_words().as_chunks_mut::<16>().0;
     let terms = Terms { floor: Some(rng.below(3)), n: rng.below(4), clock: i64::MIN };
@@ -94,8 +93,6 @@ fn every_call(memory: &[u64], rng: &mut Rng) -> usize {
         boundary::changes(mem, 1, version, list.bytes(), two),
         boundary::answer(mem, hash, rng.below(3)),
         boundary::remove(mem, rng.below(3), hash),
-        boundary::amount(record.actual, three),
-        boundary::choose(side, hash, side, prev, six),
         boundary::select(mem, &terms, entries, three),
         boundary::sync(mem),
         boundary::node(mem, hash, shown),
@@ -115,22 +112,42 @@ fn every_call(memory: &[u64], rng: &mut Rng) -> usize {
     asked.into_iter().chain(numbers).filter(|number| *number == 0).count()
 }
 
+/// The calls that are lent no memory; gives how many were accepted.
+fn without_memory(rng: &mut Rng) -> usize {
+    let (mut hash, mut other) = (Lent::new(&name(rng.below(3)).0), Lent::new(&name(1).0));
+    let (hash, other) = ((&*hash.bytes()).try_into().expect("32"), (&*other.bytes()).try_into().expect("32"));
+    let mut sides = [0; 2].map(|_| Lent::words(&[rng.below(3), 5, rng.below(2), 6 + rng.below(3)]));
+    let [local, peer] = sides.each_mut().map(|side| <&[u64; 4]>::try_from(&*side.as_words()).expect("4 words"));
+    let (mut three, mut six) = (Lent::words(&[0; 3]), Lent::words(&[0; 6]));
+    let three: &mut [u64; 3] = three.as_words().try_into().expect("3 words");
+    let six: &mut [u64; 6] = six.as_words().try_into().expect("6 words");
+    let mut text = Lent::new(&(0..rng.below(60)).map(|_| b'0' + rng.below(11) as u8).collect::<Vec<u8>>());
+    assert!(boundary::covers(rng.next(), rng.next(), rng.next()) <= 1);
+    let numbers = [
+        boundary::amount(text.bytes(), three),
+        boundary::choose(local, hash, peer, other, six),
+        boundary::choose(local, hash, local, hash, six),
+    ];
+    numbers.into_iter().filter(|number| *number == 0).count()
+}
+
 #[test]
 fn nothing_outside_is_read() {
     if !with_library() {
         return;
     }
-    let (sound, mut rng) = (sound(), Rng(7));
+    let (sounds, mut rng) = ([sound(), linked(), forked()], Rng(7));
     let mut accepted = 0;
-    for turn in 0..1500 {
-        let mut words = sound.0.shown().to_vec();
-        for _ in 0..turn % 4 {
+    for turn in 0..3600 {
+        let mut words = sounds[turn % 3].0.shown().to_vec();
+        for _ in 0..turn / 3 % 4 {
             let at = rng.below(words.len() as u64) as usize;
             words[at] = rng.next() >> rng.pick(&[0, 1, 32, 61, 62]);
         }
         accepted += every_call(&words, &mut rng);
+        assert_eq!(without_memory(&mut rng), 3, "never refused");
     }
-    assert!(accepted > 15_000, "{accepted} calls were accepted");
+    assert!(accepted > 35_000, "{accepted} calls were accepted");
     for words in 0..200 {
         every_call(&vec![rng.pick(&[0, 1, u64::MAX]); words], &mut rng);
     }

@@ -268,7 +268,7 @@ impl Gen {
         block
     }
 
-    fn reason(&mut self) -> Reason {
+    pub(super) fn reason(&mut self) -> Reason {
         let (a, b) = (self.rng.below(20), self.rng.below(20));
         let (x, y) = (u128::from(a), self.rng.pick(&[u128::from(b), TOP - u128::from(b)]));
         let name = self.name();

@@ -4,6 +4,7 @@
 //! put a plan's entries back.
 mod acts;
 mod blocks;
+mod full;
 mod profile;
 mod refuse;
 mod rng;
@@ -15,6 +16,7 @@ use reading::{Holding, View};
 use rng::Rng;
 use std::collections::BTreeMap;
 
+pub use full::FULL;
 pub use profile::{HOLDINGS, PROFILES};
 
 struct Gen {
@@ -47,6 +49,10 @@ pub fn generate(seed: u64, name: &str) -> Option<String> {
     let (watched, heads) = Default::default();
     let out = format!("# oracle gen {seed} {name}\n");
     let mut gen = Gen { rng, p, watched, out, lines: 0, n, pool, heads, loads: true, heavy: 0 };
+    if name == FULL {
+        gen.full();
+        return Some(gen.out);
+    }
     gen.start();
     gen.opening();
     while gen.lines < limit {
@@ -191,7 +197,12 @@ impl Gen {
         self.plan(false);
     }
 
+    /// One of the names that a header is settled for: the pool, where that is
+    /// of full size.
     fn known(&mut self) -> Option<Hash> {
+        if self.pool.len() > 1000 {
+            return Some(self.rng.pick(&self.pool));
+        }
         let names: Vec<Hash> = self.heads.keys().copied().collect();
         (!names.is_empty()).then(|| self.rng.pick(&names))
     }

@@ -1,4 +1,5 @@
 //! Profiles: what kind of history is written.
+use super::full::FULL;
 use super::rng::Rng;
 
 #[derive(Clone, Copy, Debug)]
@@ -149,6 +150,7 @@ pub fn profile(name: &str, rng: &mut Rng) -> Option<Profile> {
         "tiny" => tiny(rng),
         "mixed" => mixed(rng),
         HOLDINGS => holdings(rng),
+        FULL => Profile { pool: 1, late: true, ..BASE },
         _ => return None,
     })
 }

@@ -2,6 +2,8 @@
 //! histories and random ones.
 use crate::common::with_original;
 use crate::recorded::{all, text};
+use history::{Answer, Call, Hash};
+use oracle::against::Against;
 use oracle::generate::{generate, HOLDINGS, PROFILES};
 use oracle::library::{compare, differs, given, library, Compared, Player};
 use std::io::Write;
@@ -55,8 +57,8 @@ fn random_histories_of_the_holdings() {
     if with_library() {
         let compared = compare(4_000, 5_000_000, &[HOLDINGS], library, &|_| {});
         assert!(compared.difference.is_none(), "{}", compared.difference.unwrap());
-        assert!(compared.calls > 200 * compared.histories, "{}", compared.summary());
-        let often = compared.refused.iter().filter(|(_, times)| **times > 100).map(|(number, _)| *number);
+        assert!(compared.met.calls > 200 * compared.histories, "{}", compared.summary());
+        let often = compared.met.refused.iter().filter(|(_, times)| **times > 100).map(|(number, _)| *number);
         assert!(often.eq([1, 2, 3, 4, 5, 6, 7, 8, 9, 10, 11, 13]), "{}", compared.summary());
     }
 }
@@ -68,8 +70,8 @@ fn random_histories_of_all_profiles() {
     if with_library() {
         let compared = compare(150 * PROFILES.len() as u64, 6_000_000, &PROFILES, library, &|_| {});
         assert!(compared.difference.is_none(), "{}", compared.difference.unwrap());
-        assert!(compared.syncs > 5 * compared.histories, "{}", compared.summary());
-        assert!((1..=13).all(|number| compared.refused.contains_key(&number)), "{}", compared.summary());
+        assert!(compared.met.syncs > 5 * compared.histories, "{}", compared.summary());
+        assert!((1..=13).all(|number| compared.met.refused.contains_key(&number)), "{}", compared.summary());
     }
 }
 
@@ -87,11 +89,11 @@ fn histories_of_the_holdings_ask_the_library_only() {
 /// Players that are wrong in one call each.
 fn wrong(call: &'static str, from: &'static str, to: &'static str) -> Player {
     let Player { call: mut right, covers } = library();
-    let answered = move |asked: &history::Call| {
+    let answered = move |asked: &Call| {
         let answer = right(asked);
         let there = asked.name() == call && answer.to_string().starts_with(from);
         if there {
-            history::Answer::Number(to.parse().expect("a number"))
+            Answer::Number(to.parse().expect("a number"))
         } else {
             answer
         }
@@ -133,6 +135,49 @@ fn a_wrong_library_is_found_and_its_history_made_small() {
     for player in trees {
         small(compare(500, 8_000_000, &PROFILES, player, &|_| {}), 6);
     }
+}
+
+/// A player that removes another hash from the canon store than it is told to:
+/// no answer is changed on its way, what it holds is wrong.
+fn forgetful() -> Player {
+    let Player { call: mut right, covers } = library();
+    let answered = move |asked: &Call| match asked {
+        Call::Remove(2, _) => right(&Call::Remove(2, Hash([0xee; 32]))),
+        _ => right(asked),
+    };
+    Player { call: Box::new(answered), covers }
+}
+
+#[test]
+fn what_is_held_wrongly_is_found_and_its_history_made_small() {
+    if !with_library() {
+        return;
+    }
+    let difference = compare(500, 9_000_000, &PROFILES, forgetful, &|_| {}).difference.expect("it is wrong");
+    let calls: Vec<&str> = difference.lines().filter(|line| !line.starts_with('#')).collect();
+    let names: Vec<&str> = calls.iter().map(|call| call.split(' ').next().unwrap()).collect();
+    assert!(matches!(names[..], ["start", "put" | "load", "remove", _]), "{difference}");
+    assert!(calls[2].starts_with("remove 2 "), "{difference}");
+    assert!(difference.starts_with("# from: oracle gen 9000"), "{difference}");
+    let again = Against::run(difference.as_bytes(), forgetful());
+    assert!(again.difference.is_some() && !again.left(), "what is printed is such a history itself");
+    assert!(Against::run(difference.as_bytes(), library()).difference.is_none());
+}
+
+/// Where a history leaves the domain, the library must not be as the original
+/// is; nothing is compared from there on.
+#[test]
+fn nothing_is_compared_outside_the_domain() {
+    if !with_library() {
+        return;
+    }
+    let history = "start 8 200000 1 0\nput 0 a 0 0 0 \"5\" \"5\" - - - -\nanswer a 2\nsync\nremove 0 a\nsync\n\
+        put 0 a 0 0 0 \"5\" \"5\" - - - -\nsync\nlinked a\n";
+    let against = Against::run(history.as_bytes(), library());
+    assert!(against.left() && against.difference.is_none() && against.line() == 8);
+    let given_again = history.replace("sync\nlinked", "answer a 2\nsync\nlinked");
+    let against = Against::run(given_again.as_bytes(), library());
+    assert!(!against.left() && against.difference.is_none() && against.line() == 10);
 }
 
 fn small(compared: Compared, calls: usize) {

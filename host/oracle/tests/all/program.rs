@@ -63,9 +63,30 @@ fn compare_and_cover_say_that_there_is_no_difference() {
     assert!(table.ends_with("differ: 0.\n") && table.contains("| histories | 1 | 1 |"), "{table}");
 }
 
+/// One line on standard output, progress beside it; without the library a line
+/// says so, and nothing has failed.
+#[test]
+fn compare_with_the_library_says_how_far_it_is_and_what_it_came_to() {
+    let args =
+        ["compare", "--library", "--histories", "40", "--seed", "3", "--profile", "tiny", "--profile", "holdings"];
+    let output = oracle(&args, "");
+    let (told, beside) = (String::from_utf8(output.stdout).unwrap(), String::from_utf8(output.stderr).unwrap());
+    assert!(output.status.success() && told.lines().count() == 1, "{told}{beside}");
+    if !cadraspes::linked() {
+        assert_eq!(told.trim_end(), cadraspes::NOT_LINKED);
+        return;
+    }
+    let with = if oracle::judge::at_hand() { "the original and the reading" } else { "the reading alone" };
+    assert!(told.starts_with("40 histories, ") && told.ends_with(": no difference\n"), "{told}");
+    assert!(told.contains(&format!("compared with {with} (refused ")), "{told}");
+    let progress: Vec<&str> = beside.lines().filter(|line| line.contains(" of 40 histories, ")).collect();
+    assert!(progress.len() == 20 && progress[0].starts_with("2 of 40 "), "{beside}");
+}
+
 #[test]
 fn a_wrong_command_line_exits_with_2() {
-    for args in [vec![], vec!["frob"], vec!["gen", "x"], vec!["gen", "1", "nosuch"], vec!["compare", "--seed"]] {
+    let full = vec!["compare", "--profile", "full"];
+    for args in [vec![], vec!["frob"], vec!["gen", "x"], vec!["gen", "1", "nosuch"], vec!["compare", "--seed"], full] {
         assert_eq!(oracle(&args, "").status.code(), Some(2), "{args:?}");
     }
 }

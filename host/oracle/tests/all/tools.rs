@@ -1,8 +1,9 @@
-//! Checking answers and making histories small.
+//! Checking answers, making histories small, and running many of them.
 use oracle::check::first_difference;
 use oracle::compare::{describe, differs};
 use oracle::judge::Judge;
-use oracle::shrink::shrink;
+use oracle::many::many;
+use oracle::shrink::{shrink, shrink_within};
 
 const HISTORY: &str = "frob\nstart 4 9 1 0\n# a remark\nput 0 a 0 0 0 \"1\" \"1\" c - - -\nsync\nleaves\nversion\n";
 const ANSWERS: &str = "? it is no call\n0\n0\n0\n0 1\n  a\n0 1\n";
@@ -56,4 +57,34 @@ fn a_history_is_made_small() {
 fn a_history_without_a_difference_is_none_to_describe() {
     assert!(!differs(HISTORY.as_bytes()));
     assert!(describe(HISTORY.as_bytes(), "here").contains("leaves the domain"));
+}
+
+/// With few bytes to be tried the history is left larger, and still holds.
+#[test]
+fn making_small_ends_where_no_more_may_be_tried() {
+    let history: String = (0..2000).map(|at| format!("version {at}\n")).collect();
+    let holds = |history: &[u8]| String::from_utf8_lossy(history).contains("version 1234\n");
+    let lines = |bytes| {
+        let small = shrink_within(bytes, history.as_bytes(), &holds).expect("it holds");
+        assert!(holds(&small));
+        small.iter().filter(|byte| **byte == b'\n').count()
+    };
+    let whole = history.len();
+    assert_eq!([0, whole / 4, whole, 10 * whole].map(lines), [2000, 2000, 1000, 1]);
+    assert!(lines(2 * whole) < 1000);
+}
+
+#[test]
+fn many_are_handed_on_in_their_order_up_to_the_last_that_is_wanted() {
+    // The first of each ten takes longest.
+    let run = |at: u64| (0..if at.is_multiple_of(10) { 200_000 } else { 1 }).fold(at, |sum, one| sum ^ one ^ one);
+    for last in [0, 1, 37, 99] {
+        let mut seen = Vec::new();
+        many(100, run, |at, result| {
+            seen.push((at, result));
+            at < last
+        });
+        assert!(seen.into_iter().eq((0..=last).map(|at| (at, at))), "up to {last}");
+    }
+    many(0, run, |_, _| panic!("there is none"));
 }
