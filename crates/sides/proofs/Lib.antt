@@ -4,5 +4,6 @@ pub mod GatherLaws
 pub mod OurLaws
 pub mod OursLaws
 pub mod PeerLaws
+pub mod ProvenLaws
 pub mod SideLaws
 pub mod ScanLaws

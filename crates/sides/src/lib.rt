@@ -89,7 +89,7 @@ pub fn pass(e: Front, n: usize, q: usize, safe: bool, meets: bool) -> Front
 
 // The last block of our walk above the block f, from below up, before one misses its target; a number from n on where the first misses or there is
 // none. (Counted, so that it ends on any memory.)
-fn our_tip(mem: &[u64], n: usize, local: usize, f: usize) -> usize
+fn walked_tip(mem: &[u64], n: usize, local: usize, f: usize) -> usize
     requires { ⌜ Laid (now mem) n × (local < n) × (f < n) ⌝ }
     ensures { λ r. ⌜ (SoundAt (now (mem .entry)) n → Used (now (mem .entry)) local → Used (now (mem .entry)) f → (a : Asked) → a .holdings ≡ viewAt (now (mem .entry)) n .holdings → r ≡ topOf n (ourFront a local f)) ⌝ }
 {
@@ -115,6 +115,21 @@ fn our_tip(mem: &[u64], n: usize, local: usize, f: usize) -> usize
         }
     }
     front.top
+}
+
+// The same, by local's canonical linked value: if its proofs are ok then no block of its walk above index 0 misses, so the tip is local itself
+// and there is nothing to walk.
+fn our_tip(mem: &[u64], n: usize, local: usize, f: usize) -> usize
+    requires { ⌜ Laid (now mem) n × (local < n) × (f < n) ⌝ }
+    ensures { λ r. ⌜ (SoundAt (now (mem .entry)) n → Used (now (mem .entry)) local → Used (now (mem .entry)) f → (a : Asked) → a .holdings ≡ viewAt (now (mem .entry)) n .holdings → a .values ≡ viewAt (now (mem .entry)) n .values → Above a canonical local f → r ≡ topOf n (ourFront a local f)) ⌝ }
+{
+    if !deciding::proven_at(mem, n, local) {
+        return walked_tip(mem, n, local, f);
+    }
+    if mem[64 + 68 * local + 12] <= mem[64 + 68 * f + 12] {
+        return n;
+    }
+    local
 }
 
 fn work_of(v: Value) -> Amount
