@@ -1,13 +1,13 @@
 //! The library beside the original, on the same scripts in the same run. Rounds
 //! of the two take turns. Every plan, every best block and the leaves must be
 //! the same on both, once call by call, and again at the end of each round.
+use crate::clock;
 use crate::rows::{plan_rows, rows};
 use crate::script::{Script, Step};
 use crate::side::{library, original, Call, Side, Told};
 use std::hint::black_box;
-use std::time::Instant;
 
-const ROUNDS: usize = 15;
+const ROUNDS: usize = 9;
 /// A plan changes nothing, and some are long.
 const PLAN_ROUNDS: usize = 5;
 
@@ -23,9 +23,9 @@ pub fn timed(side: &mut Side, steps: &[Step]) -> u128 {
 fn round(side: &mut Side, script: &Script) -> f64 {
     side(Call::Forget);
     timed(side, &script.before);
-    let from = Instant::now();
+    let from = clock::now();
     black_box(timed(side, &script.timed));
-    from.elapsed().as_nanos() as f64 / script.per as f64
+    (clock::now() - from) / script.per as f64
 }
 
 /// Both sides tell the same, on a tree that is synced.

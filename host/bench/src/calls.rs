@@ -2,10 +2,10 @@
 //! is the median of several rounds; a round makes some calls on a copy of one
 //! memory.
 use crate::blocks::hash;
+use crate::clock;
 use cadraspes::boundary::{self, Record};
 use cadraspes::room;
 use std::hint::black_box;
-use std::time::Instant;
 
 const ROOMS: [u64; 3] = [1_024, 8_192, 32_768];
 const JOURNAL: u64 = 4_096;
@@ -82,9 +82,9 @@ fn time(memory: &[u64], which: Which, blocks: &[Block], call: Call) -> f64 {
         .map(|_| {
             let mut memory = memory.to_vec();
             before.iter().for_each(|block| assert_eq!(call(&mut memory, block), 0));
-            let from = Instant::now();
+            let from = clock::now();
             let refused = blocks.iter().filter(|block| call(black_box(&mut memory), block) != 0).count();
-            let time = from.elapsed().as_nanos() as f64 / blocks.len() as f64;
+            let time = (clock::now() - from) / blocks.len() as f64;
             assert_eq!(refused, 0, "no call is refused");
             time
         })

@@ -3,6 +3,7 @@
 mod beside;
 mod blocks;
 mod calls;
+mod clock;
 mod memory;
 mod rows;
 mod script;

@@ -1,7 +1,7 @@
 //! The rows of the comparison: for each how its script is written, by how many
 //! blocks are held.
 use crate::blocks::{blocks, leafy, rivals, Shape, FORKED};
-use crate::script::{settled, Scribe, Script, Step, TERMS};
+use crate::script::{floored, settled, Scribe, Script, Step, TERMS};
 use cadraspes::Terms;
 
 /// Blocks held, so far as the greatest room has places for those that are put.
@@ -38,6 +38,7 @@ pub fn rows() -> Vec<Row> {
     vec![
         row("new", "put, new block", 10.0, GROWTH, puts),
         row("again", "put again", 10.0, 0, again),
+        row("eight", "put again, eight blocks", 10.0, 0, eight),
         row("grow", "put one block, sync, best", 10.0, GROWTH, grow),
         row("steady", "steady state: put, sync, select, adopt, entries put back", 10.0, GROWTH, steady),
         row("load", "first load, a block", 5.0, 0, load),
@@ -76,6 +77,14 @@ fn anywhere(held: usize, count: usize) -> impl Iterator<Item = usize> {
 fn again(held: usize) -> Script {
     let timed = each(anywhere(held, GROWTH), &[]);
     Script::new(blocks(held, FORKED), held_and_synced(held), timed, GROWTH)
+}
+
+/// Eight blocks again and again, after a first time that is not timed: what
+/// they need is in the cache.
+fn eight(held: usize) -> Script {
+    let puts = |count| each(anywhere(held, 8).collect::<Vec<_>>().repeat(count / 8).into_iter(), &[]);
+    let before = [held_and_synced(held), puts(8)].concat();
+    Script::new(blocks(held, FORKED), before, puts(GROWTH), GROWTH)
 }
 
 fn grow(held: usize) -> Script {
@@ -127,7 +136,9 @@ fn whole_line(held: usize) -> usize {
 /// To the fork and back: its last block comes, then one more of the line's.
 fn reorganise(held: usize) -> Script {
     let held = whole_line(held) - 100;
-    let mut scribe = Scribe::new(rivals(held), held + 100, TERMS);
+    let blocks = rivals(held);
+    let terms = floored(&blocks);
+    let mut scribe = Scribe::new(blocks, held + 100, terms);
     for (at, entries) in [(held + 100, 201), (held + 101, 202)] {
         scribe.put(at);
         scribe.sync();
@@ -180,7 +191,7 @@ pub fn plan_rows() -> Vec<(String, usize, Script)> {
                 for held in HELD {
                     let blocks = blocks(held, Shape { every, beyond });
                     let script = Script::new(blocks, held_and_synced(held), [step].repeat(PLANS), PLANS);
-                    all.push((format!("{what}, {line}; {leaves}"), held, script));
+                    all.push((format!("{what}, {line}; {leaves}"), held, Script { terms: TERMS, ..script }));
                 }
             }
         }

@@ -38,9 +38,18 @@ pub struct Script {
 /// Epochs so long that no fork is stale.
 pub const TERMS: Terms = Terms { floor: None, n: 1_000_000, clock: 7 };
 
+/// The same, and a floor 200 below the highest block: without one, adopt goes
+/// down our whole walk for each of thousands of old forks, and the plans that
+/// are compared after a round take far longer than what is timed.
+pub fn floored(blocks: &[Block<String>]) -> Terms {
+    let highest = blocks.iter().map(|block| block.index).max();
+    Terms { floor: highest.map(|index| index.saturating_sub(200)), ..TERMS }
+}
+
 impl Script {
     pub fn new(blocks: Vec<Block<String>>, before: Vec<Step>, timed: Vec<Step>, per: usize) -> Script {
-        Script { blocks, before, timed, per, terms: TERMS, journal: JOURNAL }
+        let terms = floored(&blocks);
+        Script { blocks, before, timed, per, terms, journal: JOURNAL }
     }
 
     /// How many hashes there are in all.
