@@ -41,17 +41,20 @@ unsafe impl GlobalAlloc for Counting {
     }
 }
 
-/// Bytes that the original holds after a load, so many puts, and a sync. (The
-/// blocks that the bench made its own are those its cache holds; the bench's
-/// list of them, 8 bytes each, is taken off.)
+/// Bytes that the original holds after a load, so many puts, and a sync. What
+/// the bench alone holds is taken off: its list of the blocks, 8 bytes each, and
+/// the blocks themselves once others were put in their place. (Until then they
+/// are those that the original's cache and tree hold.)
 fn original_bytes(script: &Script, puts: usize) -> usize {
     let (before, held) = (HELD.get(), script.blocks.len());
+    assert!(puts == 0 || puts >= held, "none of the blocks is put again, or each");
     let mut side = original(script);
+    let bench = if puts == 0 { 8 * held } else { HELD.get() - before };
     side(Call::Step(Step::Start(held)));
     side(Call::Step(Step::Sync));
     (0..puts).for_each(|at| drop(side(Call::Step(Step::Put(at % held)))));
     side(Call::Step(Step::Sync));
-    let bytes = HELD.get() - before - 8 * held;
+    let bytes = HELD.get() - before - bench;
     drop(side);
     bytes
 }
