@@ -2,7 +2,7 @@
 //! blocks are held.
 use crate::blocks::{blocks, leafy, rivals, Shape, FORKED};
 use crate::script::{floored, settled, Scribe, Script, Step, TERMS};
-use cadraspes::Terms;
+use cadraspes::{Block, Terms};
 
 /// Blocks held, so far as the greatest room has places for those that are put.
 const HELD: [usize; 3] = [1_024, 8_192, 32_768];
@@ -13,8 +13,6 @@ const WAITING: usize = 1_000;
 const LEAVES: usize = 10_000;
 /// Journal room of the row whose journal runs over.
 const SHORT: usize = 64;
-/// Plans of a round.
-const PLANS: usize = 16;
 /// Blocks in an epoch where a node's steady state is meant: forks are orphaned
 /// as stale two epochs below the tip.
 const EPOCH: u64 = 40;
@@ -34,7 +32,7 @@ pub fn rows() -> Vec<Row> {
         let held = HELD.map(|held| held.min(GREATEST - put)).to_vec();
         Row { key, what, goal, held, script }
     };
-    let leafy = |key, what, script| Row { key, what, goal: 5.0, held: vec![64 + LEAVES], script };
+    let among_leaves = |key, what, script| Row { key, what, goal: 5.0, held: vec![64 + LEAVES], script };
     vec![
         row("new", "put, new block", 10.0, GROWTH, puts),
         row("again", "put again", 10.0, 0, again),
@@ -49,10 +47,10 @@ pub fn rows() -> Vec<Row> {
         row("tip", "removal and return of the tip, a sync after each", 5.0, 0, tip),
         row("middle", "removal and return of a block in the middle, a sync after each", 5.0, 0, middle),
         row("overrun", "a journal of 64 that runs over at every look: 65 puts, sync, best", 5.0, 0, overrun),
-        leafy("leaf", "10,000 leaves: put one more, sync, best", leaf),
-        leafy("listing", "10,000 leaves: listed", |_| leafy_plans(Step::Leaves)),
-        leafy("leafy-select", "10,000 leaves: select", |_| leafy_plans(Step::Select)),
-        leafy("leafy-adopt", "10,000 leaves: adopt", |_| leafy_plans(Step::Adopt)),
+        among_leaves("leaf", "10,000 leaves: put one more, sync, best", leaf),
+        among_leaves("listing", "10,000 leaves: listed", |_| asked(leafy(LEAVES), Step::Leaves)),
+        among_leaves("leafy-select", "10,000 leaves: select", |_| asked(leafy(LEAVES), Step::Select)),
+        among_leaves("leafy-adopt", "10,000 leaves: adopt", |_| asked(leafy(LEAVES), Step::Adopt)),
     ]
 }
 
@@ -172,8 +170,19 @@ fn leaf(held: usize) -> Script {
     Script::new(leafy(LEAVES + GROWTH), held_and_synced(held), timed, GROWTH)
 }
 
-fn leafy_plans(step: Step) -> Script {
-    Script::new(leafy(LEAVES), held_and_synced(64 + LEAVES), [step].repeat(PLANS), PLANS)
+/// How often a round asks for a plan or a list: some selects take less than
+/// reading the clock does, some adopts a good part of a second.
+fn times(step: Step, held: usize) -> usize {
+    if let Step::Select = step {
+        256
+    } else {
+        65_536 / held
+    }
+}
+
+fn asked(blocks: Vec<Block<String>>, step: Step) -> Script {
+    let (held, times) = (blocks.len(), times(step, blocks.len()));
+    Script::new(blocks, held_and_synced(held), [step].repeat(times), times)
 }
 
 /// For each number of blocks held, just these.
@@ -190,8 +199,8 @@ pub fn plan_rows() -> Vec<(String, usize, Script)> {
             for (leaves, every) in [("few leaves", 1_000), ("a fourth are leaves", 4)] {
                 for held in HELD {
                     let blocks = blocks(held, Shape { every, beyond });
-                    let script = Script::new(blocks, held_and_synced(held), [step].repeat(PLANS), PLANS);
-                    all.push((format!("{what}, {line}; {leaves}"), held, Script { terms: TERMS, ..script }));
+                    let script = Script { terms: TERMS, ..asked(blocks, step) };
+                    all.push((format!("{what}, {line}; {leaves}"), held, script));
                 }
             }
         }
