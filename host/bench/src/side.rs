@@ -3,7 +3,7 @@
 use crate::script::{Script, Step};
 use cadraspes::boundary::{self, EntryWords, Record};
 use cadraspes::words::{copy_words, entry_of, shown_of};
-use cadraspes::{room, Block, Hash, Plan, Terms};
+use cadraspes::{room, Block, Hash, Plan};
 
 /// What is asked of a side: a step, or what is compared and never timed.
 #[derive(Clone, Copy)]
@@ -140,7 +140,7 @@ fn record<'a>(script: &'a Script, copies: &'a [[u64; 12]], at: usize) -> Record<
 #[cfg(at_hand)]
 macro_rules! side {
     ($run:expr, $terms:expr) => {{
-        let (mut run, terms): (_, Terms) = ($run, $terms);
+        let (mut run, terms) = ($run, $terms);
         Box::new(move |call| {
             let mut number = 0;
             match call {
