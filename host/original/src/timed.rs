@@ -2,6 +2,7 @@
 //! so that nothing but its work is measured.
 use crate::chain::tree_choice::{plan_adopt, plan_select, Plan};
 use crate::convert::{hash, kind, plan, to_original};
+use crate::journal_room;
 use crate::models::miner::{Eligibility, MinerBlock, MinerBlockCache, MinerTree};
 use crate::Timed;
 use history::{Block, Hash, Terms};
@@ -12,6 +13,46 @@ pub struct Run {
     blocks: Vec<Arc<MinerBlock>>,
     cache: MinerBlockCache,
     tree: MinerTree,
+}
+
+impl crate::JournalRoom {
+    /// The calls of [`Timed`] and those beyond them. The room is heeded in
+    /// `original-journal` only, and there by all that is put on this thread.
+    pub fn timed(self, room: u64, blocks: &[Block<String>]) -> Run {
+        journal_room::set(room);
+        Run::new(blocks)
+    }
+}
+
+/// Calls beyond [`Timed`].
+impl Run {
+    /// The first so many blocks are loaded anew, under a later generation, so
+    /// that the next sync builds the tree again, in the tables it has.
+    pub fn reload(&mut self, count: usize) {
+        self.cache = self.loaded(self.cache.generation() + 1, count);
+    }
+
+    pub fn remove(&mut self, at: usize) {
+        self.cache.remove(kind(0), &self.blocks[at].hash);
+    }
+
+    /// The list of leaves, in no order, and dropped; gives how many.
+    pub fn leaves(&self) -> usize {
+        self.tree.linked_leaves().len()
+    }
+
+    /// The same in order, which is not timed.
+    pub fn listed(&self) -> Vec<Hash> {
+        let mut leaves: Vec<Hash> = self.tree.linked_leaves().iter().map(|block| hash(&block.hash)).collect();
+        leaves.sort();
+        leaves
+    }
+
+    fn loaded(&self, generation: u64, count: usize) -> MinerBlockCache {
+        let named = |block: &Arc<MinerBlock>| (block.hash.clone(), block.clone());
+        let active = self.blocks[..count].iter().map(named).collect();
+        MinerBlockCache::new(generation, active, BTreeMap::new(), BTreeMap::new())
+    }
 }
 
 fn empty() -> MinerBlockCache {
@@ -39,9 +80,7 @@ impl Timed for Run {
     }
 
     fn start(&mut self, count: usize) {
-        let named = |block: &Arc<MinerBlock>| (block.hash.clone(), block.clone());
-        let active = self.blocks[..count].iter().map(named).collect();
-        self.cache = MinerBlockCache::new(1, active, BTreeMap::new(), BTreeMap::new());
+        self.cache = self.loaded(1, count);
     }
 
     fn put(&mut self, at: usize) {
