@@ -4,5 +4,6 @@ pub mod ComparedOnce
 pub mod PlanningLaws
 pub mod RecordLaws
 pub mod ToldLaws
+pub mod ToldOnce
 pub mod ShownLaws
 pub mod ToldTreeLaws
