@@ -6,36 +6,18 @@ use Prim.Native.Nat.{ℕ}
 use native.Mathlib.Omega.{arith}
 use lib.ListN.{length}
 use Rattle.amount.specs.Choose.{_if_else_}
-use Rattle.block.proofs.WordLaws.{hash-read}
 use Rattle.block.specs.Answers.{choiceMeans, outcomeMeans}
 use Rattle.block.specs.Records.{reasonMeans}
+use Rattle.block.specs.Telling.{ReasonTold}
 use Rattle.block.specs.Words.{quad}
-use Rattle.block.specs.Writing.{ReasonIs}
 use Rattle.block.specs.declared.Choice.{Choice}
-use Rattle.block.specs.declared.Reason.{Reason}
-use Rattle.block.specs.declared.Reason.the-variants.{SameTip, Neither, PeerOnly, LocalOnly, PeerWork, LocalWork, PeerTip, LocalTip, PeerHash, LocalHash, OffSpine, CompetingFork, StaleFork}
 use Rattle.choice.specs.Parts.{Covering}
 use Rattle.memory.specs.Words.{word, seg, Stored, Four}
 use Rattle.memory.proofs.WordLaws.{stored-same, stored-other, stored-long}
 use Rattle.model.specs.Comparing.{Comparison, Side, chooseVerified, covers}
-use Rattle.boundary.specs.Compared.{outcomeNumber, ReasonTold, ChoiceTold, CoversTold}
+use Rattle.boundary.specs.Compared.{outcomeNumber, ChoiceTold, CoversTold}
 
 -- ---- a choice ----
-
-pub tells-reason : (x : Reason) (kind : ℕ) (g : ℕ → ℕ) → ReasonIs x kind g → ReasonTold (reasonMeans x) kind g
-tells-reason (SameTip h) kind g w = record { kind-is = w .kind-is; numbers = hash-read h g (w .words) }
-tells-reason Neither kind g w = record { kind-is = w .kind-is; numbers = w .words }
-tells-reason (PeerOnly x) kind g w = record { kind-is = w .kind-is; numbers = w .words }
-tells-reason (LocalOnly x) kind g w = record { kind-is = w .kind-is; numbers = w .words }
-tells-reason (PeerWork x y) kind g w = record { kind-is = w .kind-is; numbers = w .words }
-tells-reason (LocalWork x y) kind g w = record { kind-is = w .kind-is; numbers = w .words }
-tells-reason (PeerTip i j) kind g w = record { kind-is = w .kind-is; numbers = w .words }
-tells-reason (LocalTip i j) kind g w = record { kind-is = w .kind-is; numbers = w .words }
-tells-reason PeerHash kind g w = record { kind-is = w .kind-is; numbers = w .words }
-tells-reason LocalHash kind g w = record { kind-is = w .kind-is; numbers = w .words }
-tells-reason OffSpine kind g w = record { kind-is = w .kind-is; numbers = w .words }
-tells-reason CompetingFork kind g w = record { kind-is = w .kind-is; numbers = w .words }
-tells-reason StaleFork kind g w = record { kind-is = w .kind-is; numbers = w .words }
 
 -- six words are written: two, and a group of four
 module _ (m m₁ m₂ m₃ : List ℕ) (o k a b c d : ℕ) (six : length m ≡ 6) (s₁ : Stored m m₁ 0 o) (s₂ : Stored m₁ m₂ 1 k) (f : Four m₂ m₃ 2 a b c d) where

@@ -3,13 +3,13 @@ use mathlib.Core.Path.{_≡_, refl, sym, subst}
 use mathlib.Core.List.{List}
 use Prim.Native.Nat.{ℕ}
 use lib.IntN.{ℤ}
-use lib.ListN.{length, set}
+use lib.ListN.{length, set, take}
 use Rattle.model.specs.Plans.{PlanCall}
 use Rattle.block.specs.Records.{reasonMeans}
 use Rattle.block.specs.declared.Planned.{Planned}
 use Rattle.block.specs.declared.Planned.the-variants.{Scan, Apply}
 use Rattle.entries.specs.declared.Entry.{Entry}
-use Rattle.entries.specs.Handing.{meanings, HandsOut}
+use Rattle.entries.specs.Handing.{meanings, AllPlain, HandsOut}
 use Rattle.plans.specs.declared.Begun.{Begun}
 use Rattle.plans.specs.declared.Begun.the-variants.{Answered, Writes}
 use Rattle.plans.specs.Opened.{Opens, roomIn, reasonIn, plannedOf}
@@ -33,6 +33,7 @@ module _ (c : ℤ → PlanCall) (places : ℕ) (clock : ℤ) (m m₁ : List ℕ)
     refused = λ _. refl;
     long = refl;
     rest = refl;
+    plain = subst (λ (j : ℕ). AllPlain (take j list)) (sym (o .none z k)) tt;
   }
 
   pub plans-some : (b : Begun) → Opens c places m m₁ b → (roomIn b ≡ 0 → ⊥) → length list ≡ places → (m₂ : List ℕ) (list′ : List Entry) (k : ℕ) → HandsOut m₁ m₂ (roomIn b) clock (reasonMeans (reasonIn b)) list list′ k
@@ -46,4 +47,5 @@ module _ (c : ℤ → PlanCall) (places : ℕ) (clock : ℤ) (m m₁ : List ℕ)
     refused = λ no. absurd (no (t .number-is));
     long = h .long;
     rest = h .rest;
+    plain = h .plain;
   }

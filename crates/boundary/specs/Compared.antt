@@ -6,12 +6,11 @@ use mathlib.Core.Path.{_≡_}
 use lib.Dec.{eqb}
 use Rattle.amount.specs.Choose.{_if_else_}
 use Rattle.amount.specs.Value.{fromWords}
-use Rattle.block.specs.Words.{hashOf}
-use Rattle.block.specs.Writing.{Four, Two, One}
+use Rattle.block.specs.Telling.{ReasonTold}
 use Rattle.hash.specs.Digits.{bytesNumber}
 use Rattle.memory.specs.Words.{word, seg}
 use Rattle.model.specs.Comparing.{Work, known, unknown, Side, Outcome, equal, keepLocal, adoptPeer, Comparison, covers}
-use Rattle.model.specs.Record.{Header, Reason, sameTip, neither, peerOnly, localOnly, peerWork, localWork, peerTip, localTip, peerHash, localHash, offSpine, competingFork, staleFork}
+use Rattle.model.specs.Record.{Header}
 
 -- ---- a side ----
 
@@ -33,42 +32,7 @@ outcomeNumber equal = 0
 outcomeNumber keepLocal = 1
 outcomeNumber adoptPeer = 2
 
--- the kind and the four words that the reason of a shown block has: each word is told, an amount's two by their value, and those not used are 0
-abbrev pub kindNumber : Reason → ℕ
-kindNumber (sameTip h) = 1
-kindNumber neither = 2
-kindNumber (peerOnly w) = 3
-kindNumber (localOnly w) = 4
-kindNumber (peerWork w v) = 5
-kindNumber (localWork w v) = 6
-kindNumber (peerTip i j) = 7
-kindNumber (localTip i j) = 8
-kindNumber peerHash = 9
-kindNumber localHash = 10
-kindNumber offSpine = 11
-kindNumber competingFork = 12
-kindNumber staleFork = 13
-
-abbrev pub NumbersIn : Reason → (ℕ → ℕ) → Type 0
-NumbersIn (sameTip h) g = hashOf g ≡ h
-NumbersIn neither g = Four g 0 0 0 0
-NumbersIn (peerOnly w) g = One g w
-NumbersIn (localOnly w) g = One g w
-NumbersIn (peerWork w v) g = Two g w v
-NumbersIn (localWork w v) g = Two g w v
-NumbersIn (peerTip i j) g = Four g i j 0 0
-NumbersIn (localTip i j) g = Four g i j 0 0
-NumbersIn peerHash g = Four g 0 0 0 0
-NumbersIn localHash g = Four g 0 0 0 0
-NumbersIn offSpine g = Four g 0 0 0 0
-NumbersIn competingFork g = Four g 0 0 0 0
-NumbersIn staleFork g = Four g 0 0 0 0
-
-pub record ReasonTold (x : Reason) (kind : ℕ) (g : ℕ → ℕ) : Type 0 where
-  pub kind-is : kind ≡ kindNumber x
-  pub numbers : NumbersIn x g
-
--- the outcome, the reason's kind, and its four words
+-- the outcome, and the reason as a shown block has it: its kind, and its four words
 pub record ChoiceTold (c : Comparison) (out : List ℕ) : Type 0 where
   pub outcome : word out 0 ≡ outcomeNumber (c .outcome)
   pub reason : ReasonTold (c .reason) (word out 1) (seg out 2 4)

@@ -4,7 +4,7 @@ use mathlib.Core.Option.{Option, none, some}
 use mathlib.Core.Path.{_≡_}
 use Prim.Native.Nat.{ℕ}
 use lib.Dec.{eqb}
-use lib.ListN.{length, set, drop}
+use lib.ListN.{length, set, take, drop}
 use Rattle.amount.specs.Choose.{_if_else_}
 use Rattle.model.specs.Plans.{PlanCall}
 use Rattle.block.specs.Answers.{plannedNumber}
@@ -12,7 +12,7 @@ use Rattle.block.specs.declared.Planned.{Planned}
 use Rattle.block.specs.declared.Planned.the-variants.{Scan, Apply, Refused}
 use Rattle.memory.specs.Words.{word}
 use Rattle.entries.specs.declared.Entry.{Entry}
-use Rattle.entries.specs.Handing.{meanings}
+use Rattle.entries.specs.Handing.{meanings, AllPlain}
 use Rattle.plans.specs.Plan.{handed, Replies}
 
 -- a floor is given unless the first number is 0
@@ -29,7 +29,7 @@ pub record PlanTold (a : Planned) (out out′ : List ℕ) (r : ℕ) : Type 0 whe
   pub number-is : r ≡ plannedNumber a
   pub told : out′ ≡ plannedIn a out
 
--- of any memory, a refusal leaves it, the list and the words, and places past the last entry stay; of a whole one, the number is the model's, it stays whole and stands for the same state, and with 0 words and list are the plan
+-- of any memory, a refusal leaves it, the list and the words, entries are plain, and places past the last one stay; of a whole one, the number is the model's, it stays whole and stands for the same state, and with 0 words and list are the plan
 pub record EntryPlans (c : PlanCall) (m m′ : List ℕ) (list list′ : List Entry) (out out′ : List ℕ) (r : ℕ) : Type 0 where
   pub answer : Planned
   pub number-is : r ≡ plannedNumber answer
@@ -38,3 +38,4 @@ pub record EntryPlans (c : PlanCall) (m m′ : List ℕ) (list list′ : List En
   pub refused : (r ≡ 0 → ⊥) → list′ ≡ list
   pub long : length list′ ≡ length list
   pub rest : drop (handed answer) list′ ≡ drop (handed answer) list
+  pub plain : AllPlain (take (handed answer) list′)

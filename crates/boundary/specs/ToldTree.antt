@@ -20,7 +20,7 @@ use Rattle.block.specs.declared.Tip.the-variants.{Best, None as TipNone, Refuse
 use Rattle.memory.specs.Words.{word}
 use Rattle.model.specs.Questions.{TreeQuestion, counted, shown, worth, tip}
 use Rattle.model.specs.Standing.{Value, unlinked, linked}
-use Rattle.boundary.specs.Told.{blockIn, listedIn, ShownTold}
+use Rattle.boundary.specs.Told.{blockIn, toldIn, listedIn, ShownTold}
 
 -- ---- counts and blocks ----
 
@@ -28,10 +28,11 @@ pub record TreeCounts (q : TreeQuestion) (m : List ℕ) (x x′ r : ℕ) : Type 
   pub refused : (r ≡ 0 → ⊥) → x′ ≡ x
   pub asked : AskedTree q m r (counted x′)
 
--- where there is no block to show, all words but the first stay
+-- a block is told with the words that tell it; where there is none to show, all words but the first stay
 pub record TreeShows (q : TreeQuestion) (m out out′ : List ℕ) (r : ℕ) : Type 0 where
   pub refused : (r ≡ 0 → ⊥) → out′ ≡ out
   pub asked : AskedTree q m r (shown (blockIn out′))
+  pub block-told : r ≡ 0 → toldIn (blockIn out′) out′
   pub none-shown : r ≡ 0 → blockIn out′ ≡ none → out′ ≡ set out 0 0
 
 -- ---- linked values ----
@@ -80,6 +81,7 @@ pub record TreeTips (q : TreeQuestion) (m out out′ words words′ : List ℕ) 
   pub refused : (r ≡ 0 → ⊥) → (out′ ≡ out) × (words′ ≡ words)
   pub value : Value
   pub asked : AskedTree q m r (tip (blockIn out′) value)
+  pub block-told : r ≡ 0 → toldIn (blockIn out′) out′
   pub none-shown : r ≡ 0 → blockIn out′ ≡ none → out′ ≡ set out 0 0
   pub told : r ≡ 0 → ValueTold value words′
 

@@ -28,7 +28,7 @@ pub fn tell_count(x: Counted, out: &mut u64) -> u64
 
 fn write_block(out: &mut [u64], b: Block)
     requires { ⌜ length (now out) ≡ 29 ⌝ }
-    ensures { λ _. ⌜ BlockWritten b (now (out .entry)) (now (out .exit)) ⌝ }
+    ensures { λ _. ⌜ BlockWritten b (now (out .exit)) ⌝ }
 {
     out[0] = 1;
     rows::write_header(out, 1, b.header);

@@ -22,7 +22,7 @@ use Rattle.tree.specs.Calls.{Keeps}
 use Rattle.boundary.specs.Told.{countOr, CountTold, shownIn, ShownTold}
 use Rattle.boundary.specs.ToldTree.{TreeCounts, TreeShows, worthIn, WorthTold, TreeWorths, tipShown, tipWorth, TipTold, TreeTips}
 use Rattle.boundary.proofs.ToldLaws.{refused-not-0}
-use Rattle.boundary.proofs.ShownLaws.{some-not-none}
+use Rattle.boundary.proofs.ShownLaws.{some-not-none, told-in, told-none}
 
 pub syncs : {r r′ : ℕ} {m m′ : List ℕ} → r′ ≡ r → Keeps sync m m′ r → Keeps sync m m′ r′
 syncs {r} {r′} {m} {m′} e s = subst (Keeps sync m m′) (sym e) s
@@ -38,19 +38,22 @@ module _ (q : TreeQuestion) (m : List ℕ) where
   shows-in out out′ (ShownBlock b) t k =
       record {
         refused = λ no. absurd (no refl);
-        asked = record { number-is = k .number-is; reply-is = λ w z. ap shown t ∙ k .reply-is w z };
-        none-shown = λ z no. absurd (some-not-none (sym t ∙ no));
+        asked = record { number-is = k .number-is; reply-is = λ w z. ap shown (t .is) ∙ k .reply-is w z };
+        block-told = λ z. told-in t;
+        none-shown = λ z no. absurd (some-not-none (sym (t .is) ∙ no));
       }
   shows-in out out′ ShownNone t k =
       record {
         refused = λ no. absurd (no refl);
         asked = record { number-is = k .number-is; reply-is = λ w z. ap shown (t .1) ∙ k .reply-is w z };
+        block-told = λ z. told-none out′ (t .1);
         none-shown = λ z no. t .0;
       }
   shows-in out out′ (ShownRefused y) t k =
       record {
         refused = λ no. t;
         asked = record { number-is = k .number-is; reply-is = λ w z. absurd (refused-not-0 y z) };
+        block-told = λ z. absurd (refused-not-0 y z);
         none-shown = λ z no. absurd (refused-not-0 y z);
       }
 
@@ -64,8 +67,9 @@ module _ (q : TreeQuestion) (m : List ℕ) where
       record {
         refused = λ no. absurd (no refl);
         value = linked (amount.value w) ok;
-        asked = record { number-is = k .number-is; reply-is = λ h z. ap (λ (o : Option model.Block). tip o (linked (amount.value w) ok)) s ∙ k .reply-is h z };
-        none-shown = λ z no. absurd (some-not-none (sym s ∙ no));
+        asked = record { number-is = k .number-is; reply-is = λ h z. ap (λ (o : Option model.Block). tip o (linked (amount.value w) ok)) (s .is) ∙ k .reply-is h z };
+        block-told = λ z. told-in s;
+        none-shown = λ z no. absurd (some-not-none (sym (s .is) ∙ no));
         told = λ z. t;
       }
   tips-in out out′ words words′ TipNone s t k =
@@ -73,6 +77,7 @@ module _ (q : TreeQuestion) (m : List ℕ) where
         refused = λ no. absurd (no refl);
         value = unlinked;
         asked = record { number-is = k .number-is; reply-is = λ h z. ap (λ (o : Option model.Block). tip o unlinked) (s .1) ∙ k .reply-is h z };
+        block-told = λ z. told-none out′ (s .1);
         none-shown = λ z no. s .0;
         told = λ z. t;
       }
@@ -81,6 +86,7 @@ module _ (q : TreeQuestion) (m : List ℕ) where
         refused = λ no. (s, t);
         value = unlinked;
         asked = record { number-is = k .number-is; reply-is = λ h z. absurd (refused-not-0 y z) };
+        block-told = λ z. absurd (refused-not-0 y z);
         none-shown = λ z no. absurd (refused-not-0 y z);
         told = λ z. absurd (refused-not-0 y z);
       }

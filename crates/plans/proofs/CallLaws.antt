@@ -53,7 +53,7 @@ use Rattle.writing.proofs.CodeLaws.{coded-same}
 use Rattle.writing.proofs.UserLaws.{coded-idle}
 use Rattle.writing.proofs.ScratchLaws.{scratch-laid, scratch-tree, scratch-then, scratch-view, pend-scratch}
 use Rattle.entries.specs.declared.Entry.{Entry}
-use Rattle.entries.specs.Handing.{meanings, HandedOut, HandsOut}
+use Rattle.entries.specs.Handing.{meanings, AllPlain, HandedOut, HandsOut}
 use Rattle.deciding.specs.Plots.{Plots}
 use Rattle.plans.specs.Lent.{placesIn, entriesIn, WritesOut}
 use Rattle.plans.specs.Opened.{begunOf, roomIn, reasonIn, plannedOf, Opens, Finishes}
@@ -275,6 +275,7 @@ module _ (c : ℤ → PlanCall) (places : ℕ) (lent : (clock : ℤ) → planLen
       reply-is = λ w y. absurd (refusal-is-none r y);
       fits = λ w. omega arith;
     });
+    none = λ _ k. refl;
     writes = λ ne. absurd (ne refl);
   }
 
@@ -287,11 +288,13 @@ module _ (c : ℤ → PlanCall) (places : ℕ) (lent : (clock : ℤ) → planLen
     opens NoPlan k = record {
       laid = λ ne. absurd (ne refl);
       answered = λ _ clock after j. replies-whole (c clock) m m₁ n after Scan e (replies-scan (c clock) plan floor per clock (same clock) m m₁ m₁ n places (lent clock) NoPlan done k refl after refl);
+      none = λ _ j. refl;
       writes = λ ne. absurd (ne refl);
     }
     opens (ThePlan changed reason) k = record {
       laid = λ ne. scratch-laid m m₁ n (k .only) laid;
       answered = λ y. absurd (done .some refl y);
+      none = λ y. absurd (done .some refl y);
       writes = λ ne clock m₂ es es′ j room hands. replies-whole (c clock) m m₂ n (meanings es′) (Apply changed j) e
           (replies-apply (c clock) plan floor per clock (same clock) m m₁ m₂ n places (lent clock) (ThePlan changed reason) done k changed (reasonMeans reason) (refl, refl) es es′ room j hands);
     }
@@ -307,6 +310,7 @@ module _ (c : ℤ → PlanCall) (clock : ℤ) (m m₁ m₂ list list′ : List �
   none-out b z o f = subst (λ (y : Planned). Plans (c clock) m m₂ list list′ y) (sym (f .is)) (rw (f .none z .0, f .none z .1) (record {
     replies = o .answered z clock (meanings (entriesIn list)) (f .count);
     list-only = first-none list (handed (plannedOf b (f .count)));
+    plain = subst (λ (j : ℕ). AllPlain (take j (entriesIn list))) (sym (o .none z (f .count))) tt;
   }))
 
   pub plan-finished : (b : Begun) → Opens c (placesIn list) m m₁ b → Finishes m₁ m₂ b clock list list′ x → Plans (c clock) m m₂ list list′ x
@@ -316,6 +320,7 @@ module _ (c : ℤ → PlanCall) (clock : ℤ) (m m₁ m₂ list list′ : List �
       subst (λ (y : Planned). Plans (c clock) m m₂ list list′ y) (sym (f .is)) (record {
         replies = o .writes (eqb-false n 0 z) clock m₂ (entriesIn list) (entriesIn list′) (f .count) (places-are list) (out .hands);
         list-only = out .only;
+        plain = out .hands .plain;
       }))
 
 -- ---- either way, of what the steps read from what was begun ----

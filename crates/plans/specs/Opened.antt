@@ -20,7 +20,7 @@ use Rattle.writing.specs.declared.Decided.the-variants.{Scan as NoPlan, Apply a
 use Rattle.plans.specs.declared.Begun.{Begun}
 use Rattle.plans.specs.declared.Begun.the-variants.{Answered, Writes}
 use Rattle.plans.specs.Lent.{WritesOut}
-use Rattle.plans.specs.Plan.{Replies}
+use Rattle.plans.specs.Plan.{handed, Replies}
 
 abbrev pub begunOf : ℕ → Decided → Begun
 begunOf n NoPlan = Answered Scan
@@ -38,10 +38,11 @@ abbrev pub plannedOf : Begun → ℕ → Planned
 plannedOf (Answered x) k = x
 plannedOf (Writes n changed reason) k = Apply changed k
 
--- an answer is the plan's, at any time and with anything in the list; entries are the plan's once they are handed out, at any time, in a list of so many places
+-- an answer is the plan's, at any time and with anything in the list, and has no entries; entries are the plan's once they are handed out, at any time, in a list of so many places
 pub record Opens (c : ℤ → PlanCall) (places : ℕ) (m m₁ : List ℕ) (b : Begun) : Type 0 where
   pub laid : (roomIn b ≡ 0 → ⊥) → Laid m₁ (roomIn b)
   pub answered : roomIn b ≡ 0 → (clock : ℤ) (after : List model.Entry) (k : ℕ) → Replies (c clock) m m₁ (word m 0) after (plannedOf b k)
+  pub none : roomIn b ≡ 0 → (k : ℕ) → handed (plannedOf b k) ≡ 0
   pub writes : (roomIn b ≡ 0 → ⊥) → (clock : ℤ) (m₂ : List ℕ) (es es′ : List Entry) (k : ℕ) → length es ≡ places → HandsOut m₁ m₂ (roomIn b) clock (reasonMeans (reasonIn b)) es es′ k
       → Replies (c clock) m m₂ (word m 0) (meanings es′) (plannedOf b k)
 

@@ -6,7 +6,7 @@ use mathlib.Core.List.{List}
 use mathlib.Core.Path.{_≡_}
 use Prim.Native.Nat.{ℕ, _≤_}
 use lib.Dec.{ltb}
-use lib.ListN.{length}
+use lib.ListN.{length, take}
 use Rattle.amount.specs.Choose.{_if_else_}
 use Rattle.model.specs.Holding.{liveCount}
 use Rattle.model.specs.Plans.{PlanCall, askPlan, planReply}
@@ -18,7 +18,7 @@ use Rattle.block.specs.declared.Planned.the-variants.{Scan, Apply, Refused}
 use Rattle.memory.specs.Words.{word}
 use Rattle.state.specs.View.{viewAt}
 use Rattle.asking.specs.Whole.{WholeAt}
-use Rattle.entries.specs.Handing.{meanings}
+use Rattle.entries.specs.Handing.{meanings, AllPlain}
 use Rattle.plans.specs.Lent.{entriesIn, FirstOnly}
 
 -- how many entries were handed back
@@ -36,10 +36,11 @@ pub record Replies (c : PlanCall) (m m′ : List ℕ) (n : ℕ) (after : List En
   pub reply-is : WholeAt m n → plannedNumber x ≡ 0 → plannedReply after x ≡ planReply c (viewAt m n)
   pub fits : WholeAt m n → handed x ≤ length after
 
--- the list lent as words
+-- the list lent as words; of any memory, the entries handed back are plain
 pub record Plans (c : PlanCall) (m m′ list list′ : List ℕ) (x : Planned) : Type 0 where
   pub replies : Replies c m m′ (word m 0) (meanings (entriesIn list′)) x
   pub list-only : FirstOnly list list′ (handed x)
+  pub plain : AllPlain (take (handed x) (entriesIn list′))
 
 -- ---- before the core ----
 

@@ -12,11 +12,13 @@ use Rattle.amount.specs.Choose.{_if_else_}
 use Rattle.model.specs.Record as model
 use Rattle.model.specs.Holding.{effective}
 use Rattle.block.specs.Records.{headerMeans, copyMeans}
+use Rattle.block.specs.Telling.{HeaderTold, CopyTold}
 use Rattle.block.specs.Words.{quad, group, headerOf, copyOf}
 use Rattle.block.specs.Writing.{HeaderIs, CopyIs}
 use Rattle.block.specs.declared.Header.{Header}
 use Rattle.block.specs.declared.Copy.{Copy}
 use Rattle.block.specs.declared.Quad.{Quad}
+use Rattle.block.proofs.TellingLaws.{tells-header, tells-copy}
 use Rattle.block.proofs.WordLaws.{header-read, copy-read}
 use Rattle.memory.specs.Words.{word, Stored, Only, seg, Four}
 use Rattle.memory.proofs.WordLaws.{stored-same, stored-other, stored-long, seg-same}
@@ -35,20 +37,24 @@ header-groups e₀ e₁ e₂ e₃ = rw (e₀, e₁, e₂, e₃)
 pub copy-groups : {s s′ r r′ h h′ : ℕ → ℕ} → s′ ≡ s → r′ ≡ r → h′ ≡ h → copyOf s′ r′ h′ ≡ copyOf s r h
 copy-groups e₀ e₁ e₂ = rw (e₀, e₁, e₂)
 
+header-told : (x : Header) {h h′ v v′ i i′ w w′ : ℕ → ℕ} → h′ ≡ h → v′ ≡ v → i′ ≡ i → w′ ≡ w → HeaderIs x h v i w → HeaderTold (headerMeans x) h′ v′ i′ w′
+header-told x {h} {h′} {v} {v′} {i} {i′} {w} {w′} e₀ e₁ e₂ e₃ is = rw (e₀, e₁, e₂, e₃) (tells-header x h v i w is)
+
+copy-told : (x : Copy) {s s′ r r′ h h′ : ℕ → ℕ} → s′ ≡ s → r′ ≡ r → h′ ≡ h → CopyIs x s r h → CopyTold (copyMeans x) s′ r′ h′
+copy-told x {s} {s′} {r} {r′} {h} {h′} e₀ e₁ e₂ is = rw (e₀, e₁, e₂) (tells-copy x s r h is)
+
 module _ (m m₁ m₂ m₃ m₄ : List ℕ) (at : ℕ) (x : Header) (h v i w : Quad) (told : HeaderIs x (group h) (group v) (group i) (group w))
     (f₁ : Four m m₁ at (h .a) (h .b) (h .c) (h .d)) (f₂ : Four m₁ m₂ (at + 4) (v .a) (v .b) (v .c) (v .d))
     (f₃ : Four m₂ m₃ (at + 8) (i .a) (i .b) (i .c) (i .d)) (f₄ : Four m₃ m₄ (at + 12) (w .a) (w .b) (w .c) (w .d)) where
   pub header-done : Headed m m₄ at x
   unfolding headerAt
   header-done =
+      let e₀ = kept m₁ m₄ at _ _ _ _ (f₁ .is) (λ k l. f₄ .only (at + k) (omega arith) ∙ f₃ .only (at + k) (omega arith) ∙ f₂ .only (at + k) (omega arith)) in
+      let e₁ = kept m₂ m₄ (at + 4) _ _ _ _ (f₂ .is) (λ k l. f₄ .only (at + 4 + k) (omega arith) ∙ f₃ .only (at + 4 + k) (omega arith)) in
+      let e₂ = kept m₃ m₄ (at + 8) _ _ _ _ (f₃ .is) (λ k l. f₄ .only (at + 8 + k) (omega arith)) in
       record {
-        is =
-            header-groups
-            (kept m₁ m₄ at _ _ _ _ (f₁ .is) (λ k l. f₄ .only (at + k) (omega arith) ∙ f₃ .only (at + k) (omega arith) ∙ f₂ .only (at + k) (omega arith)))
-            (kept m₂ m₄ (at + 4) _ _ _ _ (f₂ .is) (λ k l. f₄ .only (at + 4 + k) (omega arith) ∙ f₃ .only (at + 4 + k) (omega arith)))
-            (kept m₃ m₄ (at + 8) _ _ _ _ (f₃ .is) (λ k l. f₄ .only (at + 8 + k) (omega arith)))
-            (f₄ .is)
-            ∙ header-read x (group h) (group v) (group i) (group w) told;
+        is = header-groups e₀ e₁ e₂ (f₄ .is) ∙ header-read x (group h) (group v) (group i) (group w) told;
+        told = header-told x e₀ e₁ e₂ (f₄ .is) told;
         only = λ k l.
             f₄ .only k (λ y z. l (omega arith) (omega arith)) ∙ f₃ .only k (λ y z. l (omega arith) (omega arith))
             ∙ f₂ .only k (λ y z. l (omega arith) (omega arith)) ∙ f₁ .only k (λ y z. l (omega arith) (omega arith));
@@ -61,13 +67,11 @@ module _ (m m₁ m₂ m₃ : List ℕ) (at : ℕ) (x : Copy) (s r h : Quad) (tol
   pub copy-done : Copied m m₃ at x
   unfolding copyAt
   copy-done =
+      let e₀ = kept m₁ m₃ at _ _ _ _ (f₁ .is) (λ k l. f₃ .only (at + k) (omega arith) ∙ f₂ .only (at + k) (omega arith)) in
+      let e₁ = kept m₂ m₃ (at + 4) _ _ _ _ (f₂ .is) (λ k l. f₃ .only (at + 4 + k) (omega arith)) in
       record {
-        is =
-            copy-groups
-            (kept m₁ m₃ at _ _ _ _ (f₁ .is) (λ k l. f₃ .only (at + k) (omega arith) ∙ f₂ .only (at + k) (omega arith)))
-            (kept m₂ m₃ (at + 4) _ _ _ _ (f₂ .is) (λ k l. f₃ .only (at + 4 + k) (omega arith)))
-            (f₃ .is)
-            ∙ copy-read x (group s) (group r) (group h) told;
+        is = copy-groups e₀ e₁ (f₃ .is) ∙ copy-read x (group s) (group r) (group h) told;
+        told = copy-told x e₀ e₁ (f₃ .is) told;
         only = λ k l.
             f₃ .only k (λ y z. l (omega arith) (omega arith)) ∙ f₂ .only k (λ y z. l (omega arith) (omega arith)) ∙ f₁ .only k (λ y z. l (omega arith) (omega arith));
         long = f₃ .long ∙ f₂ .long ∙ f₁ .long;

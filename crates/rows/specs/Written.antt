@@ -7,20 +7,23 @@ use lib.ListN.{length}
 use Rattle.model.specs.Record as model
 use Rattle.model.specs.Holding.{effective}
 use Rattle.block.specs.Records.{headerMeans, copyMeans}
+use Rattle.block.specs.Telling.{HeaderTold, CopyTold}
 use Rattle.block.specs.declared.Header.{Header}
 use Rattle.block.specs.declared.Copy.{Copy}
-use Rattle.memory.specs.Words.{word, Only}
+use Rattle.memory.specs.Words.{word, seg, Only}
 use Rattle.rows.specs.Rows.{headerAt, copyAt, heldAt}
 
--- the header stands in the 16 words from `at` on
+-- the header stands in the 16 words from `at` on, each of them told
 pub record Headed (m m′ : List ℕ) (at : ℕ) (h : Header) : Type 0 where
   pub is : headerAt m′ at ≡ headerMeans h
+  pub told : HeaderTold (headerMeans h) (seg m′ at 4) (seg m′ (at + 4) 4) (seg m′ (at + 8) 4) (seg m′ (at + 12) 4)
   pub only : Only m m′ at (at + 16)
   pub long : length m′ ≡ length m
 
--- the copy stands in the 12 words from `at` on
+-- the copy stands in the 12 words from `at` on, each of them told
 pub record Copied (m m′ : List ℕ) (at : ℕ) (c : Copy) : Type 0 where
   pub is : copyAt m′ at ≡ some (copyMeans c)
+  pub told : CopyTold (copyMeans c) (seg m′ at 4) (seg m′ (at + 4) 4) (seg m′ (at + 8) 4)
   pub only : Only m m′ at (at + 12)
   pub long : length m′ ≡ length m
 

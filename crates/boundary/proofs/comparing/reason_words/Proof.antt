@@ -1,5 +1,5 @@
 -- `boundary::comparing::reason_words` meets its contract.
-use Rattle.boundary.proofs.ComparedLaws.{tells-reason}
+use Rattle.block.proofs.TellingLaws.{tells-reason}
 use borrow.Author.Needs.{needs}
 use Rattle.boundary.proofs.comparing.reason_words.Statement.{statement}
 use Rattle.boundary.proofs.comparing.reason_words.Tie as tie
