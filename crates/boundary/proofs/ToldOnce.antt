@@ -226,11 +226,11 @@ abbrev pub AllNumbers : List Entry → Type 0
 AllNumbers [] = Unit {0}
 AllNumbers (e ∷ l) = Numbers e × AllNumbers l
 
-abbrev headOr : model.Entry → List model.Entry → model.Entry
+abbrev pub headOr : {A : Type 0} → A → List A → A
 headOr d [] = d
 headOr d (x ∷ l) = x
 
-abbrev restOf : List model.Entry → List model.Entry
+abbrev pub restOf : {A : Type 0} → List A → List A
 restOf [] = []
 restOf (x ∷ l) = l
 

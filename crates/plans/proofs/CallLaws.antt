@@ -118,7 +118,7 @@ module _ (m : List ℕ) (n places : ℕ) where
 
 -- ---- done ----
 
-take-meanings : (k : ℕ) (l : List Entry) → take k (meanings l) ≡ meanings (take k l)
+pub take-meanings : (k : ℕ) (l : List Entry) → take k (meanings l) ≡ meanings (take k l)
 take-meanings zero l = refl
 take-meanings (suc k) [] = refl
 take-meanings (suc k) (e ∷ l) = ap {B = List model.Entry} (λ r. Rattle.entries.specs.Entries.entryMeans e ∷ r) (take-meanings k l)
