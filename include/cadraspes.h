@@ -63,7 +63,8 @@ enum { CADRASPES_ELIGIBLE = 0, CADRASPES_ELIGIBLE_FOR_NOW = 1, CADRASPES_INELIGI
  *   8 to 11  the competing hash
  * Any words mean something, and what is not said to be there is not looked at. In a call a state of 0 is a copy with no flag and none of the
  * optional three, whatever the other eleven words. Of a time's word the highest bit is not looked at; a time's kind above 2 is read as 2, a
- * reason's kind above 13 as 13, and of a state only the three flags are read. */
+ * reason's kind above 13 as 13, and of a state only the three flags are read. What the library itself writes is one of these only: a state of
+ * 1 to 8, a time's kind of 0 to 2 and its word below 2^63, a reason's kind of 0 to 13, and 0 for each word that is not used. */
 #define CADRASPES_COPY_WORDS 12
 
 /* The state word of a copy, each part 0 or 1; and its parts, of any state word. */
