@@ -3,7 +3,8 @@
 use crate::script::{Script, Step};
 use cadraspes::boundary::{self, EntryWords, Record};
 use cadraspes::words::{copy_words, entry_of, shown_of};
-use cadraspes::{room, Block, Hash, Plan};
+use cadraspes::{room, Block, Hash, Plan, Terms};
+use history::Timed;
 
 /// What is asked of a side: a step, or what is compared and never timed.
 #[derive(Clone, Copy)]
@@ -135,48 +136,35 @@ fn record<'a>(script: &'a Script, copies: &'a [[u64; 12]], at: usize) -> Record<
     Record { hash: &hash.0, index: *index, epoch: *epoch, prev: &prev.0, target, actual, copy: &copies[at] }
 }
 
-/// The original's calls as a side. (Its type has no name here, and there are
-/// two of it: with its own journal room, and with another.)
-#[cfg(at_hand)]
-macro_rules! side {
-    ($run:expr, $terms:expr) => {{
-        let (mut run, terms) = ($run, $terms);
-        Box::new(move |call| {
-            let mut number = 0;
-            match call {
-                Call::Forget => run.forget(),
-                Call::Tip => return Told::Tip(run.best_hash()),
-                Call::Plan { adopt } => return Told::Plan(run.planned(adopt, &terms)),
-                Call::Listed => return Told::Listed(run.listed()),
-                Call::Step(step) => match step {
-                    Step::Start(count) => run.start(count),
-                    Step::Reload(count) => run.reload(count),
-                    Step::Put(at) => run.put(at),
-                    Step::Remove(at) => run.remove(at),
-                    Step::Sync => run.sync(),
-                    Step::Best => number = run.best(),
-                    Step::Leaves => number = run.leaves() as u128,
-                    Step::Select => number = run.plan(false, &terms).into(),
-                    Step::Adopt => number = run.plan(true, &terms).into(),
-                },
-            }
-            Told::Number(number)
-        })
-    }};
-}
-
-/// The original, as it is where its own journal room is meant.
-#[cfg(at_hand)]
+/// The original: as it is where its own journal room is meant, else with
+/// another.
 pub fn original(script: &Script) -> Side<'_> {
-    use original::Timed as _;
-    use original_journal::Timed as _;
-    if script.journal == crate::script::JOURNAL {
-        return side!(original::JournalRoom.timed(script.journal, &script.blocks), script.terms);
-    }
-    side!(original_journal::JournalRoom.timed(script.journal, &script.blocks), script.terms)
+    let timed = if script.journal == crate::script::JOURNAL { original::timed } else { original_journal::timed };
+    let mut run = timed(script.journal, &script.blocks).expect("the original's sources are at hand");
+    let terms = script.terms;
+    Box::new(move |call| match call {
+        Call::Step(step) => Told::Number(original_step(&mut *run, step, &terms)),
+        Call::Forget => {
+            run.forget();
+            Told::Number(0)
+        }
+        Call::Tip => Told::Tip(run.best_hash()),
+        Call::Plan { adopt } => Told::Plan(run.planned(adopt, &terms)),
+        Call::Listed => Told::Listed(run.listed()),
+    })
 }
 
-#[cfg(not(at_hand))]
-pub fn original(_: &Script) -> Side<'_> {
-    panic!("the original's sources are not at hand")
+fn original_step(run: &mut dyn Timed, step: Step, terms: &Terms) -> u128 {
+    match step {
+        Step::Start(count) => run.start(count),
+        Step::Reload(count) => run.reload(count),
+        Step::Put(at) => run.put(at),
+        Step::Remove(at) => run.remove(at),
+        Step::Sync => run.sync(),
+        Step::Best => return run.best(),
+        Step::Leaves => return run.leaves() as u128,
+        Step::Select => return run.plan(false, terms).into(),
+        Step::Adopt => return run.plan(true, terms).into(),
+    }
+    0
 }

@@ -21,6 +21,7 @@ mod engine;
 mod hash;
 mod reason;
 mod sentence;
+mod timed;
 mod words;
 
 pub use answer::Answer;
@@ -29,6 +30,7 @@ pub use call::{read_line, Call, Line};
 pub use engine::{ask, Ask, Engine};
 pub use hash::Hash;
 pub use reason::Reason;
+pub use timed::Timed;
 
 /// The lines of a history or of its answers, without their ends. The end of
 /// the last line may be missing.

@@ -45,31 +45,17 @@ pub fn start(_: u64, _: u64) -> Option<Box<dyn history::Engine>> {
     None
 }
 
-/// The original's own calls on blocks that were made its own beforehand.
-pub trait Timed {
-    /// What was held is let go, so that this is not measured with what follows.
-    fn forget(&mut self);
-    /// The first so many blocks are loaded; nothing is synced.
-    fn start(&mut self, count: usize);
-    fn put(&mut self, at: usize);
-    fn sync(&mut self);
-    /// The work of the best block.
-    fn best(&self) -> u128;
-    fn best_hash(&self) -> Option<history::Hash>;
-    /// A plan, select or adopt; gives its `changed` alone, 0 for a scan.
-    fn plan(&mut self, adopt: bool, terms: &history::Terms) -> u64;
-    /// The same plan whole, which is not timed.
-    fn planned(&mut self, adopt: bool, terms: &history::Terms) -> history::Plan;
-}
-
-/// None where the sources are not at hand.
+/// The original's own calls on blocks that were made its own beforehand; none
+/// where the sources are not at hand. The journal room is heeded in
+/// `original-journal` only, and there by all that is put on this thread.
 #[cfg(at_hand)]
-pub fn timed(blocks: &[history::Block<String>]) -> Option<Box<dyn Timed>> {
+pub fn timed(journal_room: u64, blocks: &[history::Block<String>]) -> Option<Box<dyn history::Timed>> {
+    journal_room::set(journal_room);
     Some(Box::new(timed::Run::new(blocks)))
 }
 
 #[cfg(not(at_hand))]
-pub fn timed(_: &[history::Block<String>]) -> Option<Box<dyn Timed>> {
+pub fn timed(_: u64, _: &[history::Block<String>]) -> Option<Box<dyn history::Timed>> {
     None
 }
 

@@ -2,10 +2,8 @@
 //! so that nothing but its work is measured.
 use crate::chain::tree_choice::{plan_adopt, plan_select, Plan};
 use crate::convert::{hash, kind, plan, to_original};
-use crate::journal_room;
 use crate::models::miner::{Eligibility, MinerBlock, MinerBlockCache, MinerTree};
-use crate::Timed;
-use history::{Block, Hash, Terms};
+use history::{Block, Hash, Terms, Timed};
 use std::collections::BTreeMap;
 use std::sync::Arc;
 
@@ -13,46 +11,6 @@ pub struct Run {
     blocks: Vec<Arc<MinerBlock>>,
     cache: MinerBlockCache,
     tree: MinerTree,
-}
-
-impl crate::JournalRoom {
-    /// The calls of [`Timed`] and those beyond them. The room is heeded in
-    /// `original-journal` only, and there by all that is put on this thread.
-    pub fn timed(self, room: u64, blocks: &[Block<String>]) -> Run {
-        journal_room::set(room);
-        Run::new(blocks)
-    }
-}
-
-/// Calls beyond [`Timed`].
-impl Run {
-    /// The first so many blocks are loaded anew, under a later generation, so
-    /// that the next sync builds the tree again, in the tables it has.
-    pub fn reload(&mut self, count: usize) {
-        self.cache = self.loaded(self.cache.generation() + 1, count);
-    }
-
-    pub fn remove(&mut self, at: usize) {
-        self.cache.remove(kind(0), &self.blocks[at].hash);
-    }
-
-    /// The list of leaves, in no order, and dropped; gives how many.
-    pub fn leaves(&self) -> usize {
-        self.tree.linked_leaves().len()
-    }
-
-    /// The same in order, which is not timed.
-    pub fn listed(&self) -> Vec<Hash> {
-        let mut leaves: Vec<Hash> = self.tree.linked_leaves().iter().map(|block| hash(&block.hash)).collect();
-        leaves.sort();
-        leaves
-    }
-
-    fn loaded(&self, generation: u64, count: usize) -> MinerBlockCache {
-        let named = |block: &Arc<MinerBlock>| (block.hash.clone(), block.clone());
-        let active = self.blocks[..count].iter().map(named).collect();
-        MinerBlockCache::new(generation, active, BTreeMap::new(), BTreeMap::new())
-    }
 }
 
 fn empty() -> MinerBlockCache {
@@ -64,9 +22,13 @@ impl Run {
         let blocks = blocks.iter().map(to_original).map(Arc::new).collect();
         Run { blocks, cache: empty(), tree: MinerTree::default() }
     }
-}
 
-impl Run {
+    fn loaded(&self, generation: u64, count: usize) -> MinerBlockCache {
+        let named = |block: &Arc<MinerBlock>| (block.hash.clone(), block.clone());
+        let active = self.blocks[..count].iter().map(named).collect();
+        MinerBlockCache::new(generation, active, BTreeMap::new(), BTreeMap::new())
+    }
+
     fn decided(&self, adopt: bool, terms: &Terms) -> Plan {
         shims::set_clock(terms.clock);
         let decide = if adopt { plan_adopt } else { plan_select };
@@ -83,8 +45,16 @@ impl Timed for Run {
         self.cache = self.loaded(1, count);
     }
 
+    fn reload(&mut self, count: usize) {
+        self.cache = self.loaded(self.cache.generation() + 1, count);
+    }
+
     fn put(&mut self, at: usize) {
         self.cache.put(kind(0), &self.blocks[at]);
+    }
+
+    fn remove(&mut self, at: usize) {
+        self.cache.remove(kind(0), &self.blocks[at].hash);
     }
 
     fn sync(&mut self) {
@@ -97,6 +67,17 @@ impl Timed for Run {
 
     fn best_hash(&self) -> Option<Hash> {
         self.tree.best().map(|(block, _)| hash(&block.hash))
+    }
+
+    /// In no order.
+    fn leaves(&self) -> usize {
+        self.tree.linked_leaves().len()
+    }
+
+    fn listed(&self) -> Vec<Hash> {
+        let mut leaves: Vec<Hash> = self.tree.linked_leaves().iter().map(|block| hash(&block.hash)).collect();
+        leaves.sort();
+        leaves
     }
 
     /// Its writes are dropped, as they would be once applied.
