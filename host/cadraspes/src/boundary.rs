@@ -3,7 +3,7 @@
 //! library: on any memory whatever a call ends, stays inside of what it was
 //! lent, and a refusal changes nothing.
 #![allow(unsafe_code)]
-use crate::Terms;
+use crate::{Refusal, Terms};
 
 /// What a block's copy takes: the twelve words of docs/MEMORY.md.
 pub type CopyWords = [u64; 12];
@@ -100,6 +100,25 @@ functions! {
     );
     fn cadraspes_covers(index: u64, epoch: u64, per_epoch: u64);
     fn cadraspes_amount(text: *const u8, len: usize, out: &mut [u64; 3]);
+}
+
+/// What the contracts of the library promise, and all that this crate takes on
+/// their word: it stops here, and nowhere else, if one were not kept.
+pub fn promised<T>(what: Option<T>) -> T {
+    what.expect("the library keeps its contracts")
+}
+
+/// Document 01's number as a result.
+pub fn done(number: u64) -> Result<(), Refusal> {
+    match number {
+        0 => Ok(()),
+        _ => Err(promised(Refusal::of(number))),
+    }
+}
+
+/// Of calls that are never refused on a memory that calls left.
+pub fn never(number: u64) {
+    promised((number == 0).then_some(()));
 }
 
 /// A record as it crosses: amounts as texts, the rest of a copy as words.

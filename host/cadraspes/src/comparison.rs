@@ -1,6 +1,6 @@
 //! The comparison of two chains (document 01, "Comparing two chains"): neither
 //! call needs a tree, and neither is ever refused.
-use crate::boundary;
+use crate::boundary::{self, never};
 use crate::words::{choice_of, side_words};
 use crate::{Choice, Reason, Side};
 
@@ -20,8 +20,7 @@ use crate::{Choice, Reason, Side};
 /// ```
 pub fn choose(local: &Side<u128>, remote: &Side<u128>) -> (Choice, Reason) {
     let mut out = [0; 6];
-    let number = boundary::choose(&side_words(local), &local.hash.0, &side_words(remote), &remote.hash.0, &mut out);
-    assert_eq!(number, 0, "a comparison is never refused");
+    never(boundary::choose(&side_words(local), &local.hash.0, &side_words(remote), &remote.hash.0, &mut out));
     choice_of(&out)
 }
 

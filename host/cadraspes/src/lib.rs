@@ -59,8 +59,9 @@
 //! # Ok::<(), Refusal>(())
 //! ```
 //!
-//! Where the library was not there to link (see build.rs), [`linked`] is false
-//! and every call panics.
+//! No call panics, whatever it is given, but in [`boundary`]: where the library
+//! was not there to link (see build.rs; [`linked`] is false then), and where it
+//! did not keep a contract that is proved of it.
 #![deny(unsafe_code)]
 pub mod boundary;
 mod comparison;

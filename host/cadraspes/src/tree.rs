@@ -1,24 +1,17 @@
 //! A tree that owns its memory.
-use crate::boundary::{self, EntryWords, PlannedWords, Record, ShownWords, ValueWords};
+use crate::boundary::{self, done, never, promised, EntryWords, PlannedWords, Record, ShownWords, ValueWords};
 use crate::words::{copy_words, entry_of, entry_words, reading_of, shown_of, value_of};
 use crate::{Amount, Block, Entry, Hash, Plan, Refusal, Terms, Work};
 
-/// How many words of memory some rooms need (docs/MEMORY.md).
+/// How many words of memory some rooms need (docs/MEMORY.md); rooms that no
+/// start takes may need as many as there are numbers.
 pub fn room(hashes: u64, journal: u64) -> u64 {
-    64 + 81 * hashes + 8 * journal
+    hashes.saturating_mul(81).saturating_add(journal.saturating_mul(8)).saturating_add(64)
 }
 
 /// A tree of blocks with its journal.
 pub struct Tree {
     memory: Vec<u64>,
-}
-
-/// Document 01's number as a result.
-fn done(number: u64) -> Result<(), Refusal> {
-    match number {
-        0 => Ok(()),
-        _ => Err(Refusal::of(number).expect("the library gives back 0 to 13")),
-    }
 }
 
 impl Tree {
@@ -120,7 +113,7 @@ impl Tree {
         // No more hashes than touches since, and no more than the journal has room for.
         let touches = self.version().saturating_sub(version).min(200_000);
         let mut list = vec![Hash([0; 32]); touches as usize];
-        let count = self.changes_into(generation, version, &mut list).expect("the list is long enough")?;
+        let count = promised(self.changes_into(generation, version, &mut list).ok())?;
         list.truncate(count);
         Some(list)
     }
@@ -290,7 +283,7 @@ impl Tree {
         let mut out = [0; 3];
         done(plan(&mut self.memory, terms, &mut words, &mut out))?;
         let entries =
-            |(changed, count)| Plan::Apply { changed, entries: words[..count].iter().map(entry_of).collect() };
+            |(changed, count)| Plan::Apply { changed, entries: words.iter().take(count).map(entry_of).collect() };
         Ok(applied(&out).map_or(Plan::Scan, entries))
     }
 
@@ -332,11 +325,6 @@ fn fill(list: &mut [Hash], bytes: &[u8]) {
     for (place, hash) in list.iter_mut().zip(bytes.chunks_exact(32)) {
         place.0.copy_from_slice(hash);
     }
-}
-
-/// Of calls that are never refused on a memory that calls left.
-fn never(number: u64) {
-    assert_eq!(number, 0, "a call that is never refused");
 }
 
 fn with_record<T>(block: &Block<String>, call: impl FnOnce(&Record) -> T) -> T {

@@ -1,7 +1,7 @@
 //! Records as words (docs/MEMORY.md): the twelve of a copy, the twenty-nine
 //! that a question for a block writes, the three of a linked value, those of a
 //! comparison, and the sixteen of a plan's entry.
-use crate::boundary::{ChoiceWords, CopyWords, EntryWords, ShownWords, SideWords, ValueWords};
+use crate::boundary::{promised, ChoiceWords, CopyWords, EntryWords, ShownWords, SideWords, ValueWords};
 use crate::{Amount, Block, Choice, Entry, Hash, Marks, Reason, Side, Work};
 
 /// Four words of a hash, the most significant first.
@@ -10,8 +10,9 @@ fn hash_words(hash: Hash) -> [u64; 4] {
 }
 
 fn hash_of(words: &[u64]) -> Hash {
-    let bytes: Vec<u8> = words.iter().flat_map(|word| word.to_be_bytes()).collect();
-    Hash(bytes.try_into().expect("four words"))
+    let mut bytes = [0; 32];
+    bytes.chunks_exact_mut(8).zip(words).for_each(|(part, word)| part.copy_from_slice(&word.to_be_bytes()));
+    Hash(bytes)
 }
 
 /// Two words of an amount, the lower first.
@@ -113,7 +114,7 @@ pub fn copy_words(marks: &Marks) -> CopyWords {
 
 /// What twelve words of a copy mean. A state of 0 has none of what the other
 /// words say.
-pub fn copy_of(words: &[u64]) -> Marks {
+pub fn copy_of(words: &CopyWords) -> Marks {
     if words[0] == 0 {
         return Marks::default();
     }
@@ -137,7 +138,7 @@ pub fn shown_of(words: &ShownWords) -> Option<Block<Amount>> {
         epoch: header[9],
         target: reading_of(header[10], &header[12..14]),
         actual: reading_of(header[11], &header[14..16]),
-        marks: copy_of(&words[17..]),
+        marks: copy_of(&std::array::from_fn(|at| words[17 + at])),
     })
 }
 
@@ -154,7 +155,7 @@ pub fn choice_of(words: &ChoiceWords) -> (Choice, Reason) {
         1 => Choice::Local,
         _ => Choice::Remote,
     };
-    (choice, reason_of(words[1], &words[2..]).expect("a comparison has a reason"))
+    (choice, promised(reason_of(words[1], &words[2..])))
 }
 
 /// The sixteen words of an entry.
@@ -167,5 +168,5 @@ pub fn entry_words(entry: &Entry) -> EntryWords {
 
 /// What sixteen words of an entry mean.
 pub fn entry_of(words: &EntryWords) -> Entry {
-    Entry { hash: hash_of(&words[..4]), marks: copy_of(&words[4..]) }
+    Entry { hash: hash_of(&words[..4]), marks: copy_of(&std::array::from_fn(|at| words[4 + at])) }
 }

@@ -132,6 +132,8 @@ fn any_words_are_a_copy() {
         shown_of(asked.words[..].try_into().unwrap()).expect("a copy was put").marks
     };
     assert_eq!(shown([0; 12]), Marks::default());
+    let none = [0, 1, 7, 13, 5, 5, 5, 5, 5, 5, 5, 5];
+    assert_eq!((shown(none), copy_of(&none)), (Marks::default(), Marks::default()));
     assert_eq!(shown([1; 12]), copy_of(&[1; 12]));
     let zero = Marks { reason: Some(Reason::Stale), ..Marks::default() };
     assert_eq!(shown([1, 0, 0, 14, 0, 0, 0, 0, 0, 0, 0, 0]), zero);
