@@ -19,7 +19,7 @@ abbrev pub amountIs : Amount → ℕ → ℕ → ℕ → Type 0
 amountIs (readable v) kind x y = (kind ≡ 1) × (fromWords x y ≡ v)
 amountIs unreadable kind x y = (kind ≡ 0) × (x ≡ 0) × (y ≡ 0)
 
--- two zeros for none; 1 and the seconds, or 2 and one less than the seconds below 0
+-- two zeros for none; 1 and the time, or 2 and n where the time is -1 - n
 abbrev pub TimeTold : Option ℤ → ℕ → ℕ → Type 0
 TimeTold none kind word = Timed kind word 0 0
 TimeTold (some t) kind word = SignedIs t kind word

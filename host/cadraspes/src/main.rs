@@ -1,7 +1,8 @@
 //! cadraspes: histories answered by the library, and its tree drawn.
 #![forbid(unsafe_code)]
 use cadraspes::draw::{svg, text, Played, Scene};
-use cadraspes::Replay;
+use cadraspes::{Refusal, Replay};
+use history::Answer;
 use std::ffi::{OsStr, OsString};
 use std::fs::File;
 use std::io::{self, BufRead, BufReader, BufWriter, ErrorKind, Write};
@@ -77,11 +78,24 @@ fn replay(input: &mut dyn BufRead) -> Result<(), Failure> {
     output.flush().map_err(Failure::Write)
 }
 
+/// What a drawing would leave out without a word: a line that is no call, and
+/// a call that is refused. (With 12 and 13 only questions and plans are.)
+fn left_out(answer: Answer) -> Option<String> {
+    match answer {
+        Answer::NoCall(_) => Some(answer.to_string()),
+        Answer::Refused(number @ ..12) => Some(format!("refused, {}", Refusal::of(number.into())?)),
+        _ => None,
+    }
+}
+
 /// The tree at the end of a history.
 fn draw(input: &mut dyn BufRead, drawn: fn(&Scene) -> String) -> Result<(), Failure> {
-    let mut played = Played::default();
+    let (mut played, mut number) = (Played::default(), 0);
     each_line(input, |line| {
-        played.line(line);
+        number += 1;
+        if let Some(what) = played.line(line).and_then(left_out) {
+            told(0, &format!("line {number}: {what}"));
+        }
         Ok(())
     })?;
     let mut output = io::stdout().lock();

@@ -26,7 +26,9 @@ fn printed(args: &[&str], input: &[u8]) -> Option<Vec<u8>> {
         assert_eq!((output.status.code(), told.trim_end(), output.stdout.len()), (Some(1), NOT_LINKED, 0), "{args:?}");
         return None;
     }
-    assert!(output.status.success() && told.is_empty(), "{args:?}: {told}");
+    // what a drawing leaves out, and nothing else
+    let expected = told.lines().all(|line| args[0] == "draw" && line.starts_with("line "));
+    assert!(output.status.success() && expected, "{args:?}: {told}");
     Some(output.stdout)
 }
 
@@ -50,6 +52,21 @@ fn standard_input_is_read_for_a_dash() {
     let from_file = printed(&["draw", file.to_str().expect("a name")], b"");
     assert_eq!(from_file, printed(&["draw", "-"], &text(&file)));
     assert_eq!(printed(&["replay", "-"], b""), Some(Vec::new()));
+}
+
+/// A drawing says on standard error what it does not show; not that a question
+/// was refused.
+#[test]
+fn drawings_say_what_was_left_out() {
+    let history = b"start 1 9 1 0\n# a remark\nput 0 a 0 0 0 \"1\" \"1\" - - - -\nbest\nput 0 b 1 0 a \"1\" \"1\" - - - -\npt 0 c\nsync\n";
+    let output = run(&["draw", "-"], history);
+    if !linked() {
+        return;
+    }
+    let told = String::from_utf8(output.stderr).expect("text");
+    let lines: Vec<&str> = told.lines().collect();
+    assert!(output.status.success() && lines.len() == 2, "{told}");
+    assert!(lines[0].starts_with("line 5: refused, 5 FULL: ") && lines[1].starts_with("line 6: ? "), "{told}");
 }
 
 /// A long history, more of it than a pipe holds.
