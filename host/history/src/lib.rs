@@ -21,6 +21,7 @@ mod engine;
 mod hash;
 mod reason;
 mod sentence;
+mod started;
 mod timed;
 mod words;
 
@@ -30,6 +31,7 @@ pub use call::{read_line, Call, Line};
 pub use engine::{ask, Ask, Engine};
 pub use hash::Hash;
 pub use reason::Reason;
+pub use started::heard;
 pub use timed::Timed;
 
 /// The lines of a history or of its answers, without their ends. The end of

@@ -2,20 +2,10 @@
 use crate::recorded::{all, folder, text};
 use crate::xml;
 use cadraspes::{linked, NOT_LINKED};
-use std::io::Write;
-use std::process::{Command, Output, Stdio};
+use std::process::Output;
 
 fn run(args: &[&str], input: &[u8]) -> Output {
-    let mut child = Command::new(env!("CARGO_BIN_EXE_cadraspes"))
-        .args(args)
-        .stdin(Stdio::piped())
-        .stdout(Stdio::piped())
-        .stderr(Stdio::piped())
-        .spawn()
-        .expect("the program was built with the tests");
-    // A program that fails before it reads closes its end.
-    let _ = child.stdin.take().expect("piped above").write_all(input);
-    child.wait_with_output().expect("the program was started")
+    history::heard(env!("CARGO_BIN_EXE_cadraspes"), args, input).expect("the program was built with the tests")
 }
 
 /// What it prints, or none where it says that there is no library.

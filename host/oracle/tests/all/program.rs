@@ -1,20 +1,10 @@
 //! The program itself: what it prints and how it exits.
-use std::io::Write;
-use std::process::{Command, Output, Stdio};
+use std::process::Output;
 
 const ORACLE: &str = env!("CARGO_BIN_EXE_oracle");
 
 fn oracle(args: &[&str], input: &str) -> Output {
-    let mut child = Command::new(ORACLE)
-        .args(args)
-        .stdin(Stdio::piped())
-        .stdout(Stdio::piped())
-        .stderr(Stdio::piped())
-        .spawn()
-        .expect("the program was built with the tests");
-    // A program that fails before it reads closes its end.
-    let _ = child.stdin.take().expect("piped above").write_all(input.as_bytes());
-    child.wait_with_output().expect("the program was started")
+    history::heard(ORACLE, args, input.as_bytes()).expect("the program was built with the tests")
 }
 
 fn printed(args: &[&str], input: &str) -> String {
