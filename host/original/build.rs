@@ -11,20 +11,34 @@ const FILES: [(&str, &str, &[&str]); 2] = [
     ("chain", "modality-node/src/chain", &["fork_choice", "tree_choice"]),
 ];
 
-/// The checkout that MODALITY_SRC names, else docs/src or shared/docs/src in a
-/// folder above or beside one.
+/// The first of the files that a folder lacks.
+fn missing(folder: &Path) -> Option<PathBuf> {
+    let files = FILES.iter().flat_map(|(_, path, names)| names.iter().map(move |name| (path, name)));
+    let mut paths = files.map(|(path, name)| folder.join("rust").join(path).join(format!("{name}.rs")));
+    paths.find(|path| !path.is_file())
+}
+
+/// The checkout that MODALITY_SRC names, which must have the files; else
+/// docs/src or shared/docs/src in a folder above or beside one. Where none has
+/// them, they are looked for again at the next build.
 fn source() -> Option<PathBuf> {
     println!("cargo:rerun-if-env-changed=MODALITY_SRC");
-    let whole = |folder: &PathBuf| {
-        let there = |path: &str, name: &&str| folder.join("rust").join(path).join(format!("{name}.rs")).is_file();
-        FILES.iter().all(|(_, path, names)| names.iter().all(|name| there(path, name)))
-    };
-    if let Ok(named) = env::var("MODALITY_SRC") {
-        return Some(PathBuf::from(named)).filter(whole);
+    if let Some(folder) = env::var_os("MODALITY_SRC").map(PathBuf::from) {
+        if let Some(file) = missing(&folder) {
+            eprintln!("MODALITY_SRC names no checkout of the original: there is no {}", file.display());
+            std::process::exit(1);
+        }
+        return Some(folder);
     }
     let here = env::var("CARGO_MANIFEST_DIR").expect("set by cargo");
     let above = Path::new(&here).ancestors();
-    above.flat_map(|folder| [folder.join("docs/src"), folder.join("shared/docs/src")]).find(whole)
+    let places: Vec<PathBuf> =
+        above.flat_map(|folder| [folder.join("docs/src"), folder.join("shared/docs/src")]).collect();
+    let found = places.iter().find(|folder| missing(folder).is_none()).cloned();
+    if found.is_none() {
+        places.iter().for_each(|folder| println!("cargo:rerun-if-changed={}", folder.display()));
+    }
+    found
 }
 
 /// cache.rs with its constant replaced by one that reads the room set.
@@ -45,6 +59,7 @@ fn main() {
         return;
     };
     println!("cargo:rustc-cfg=at_hand");
+    println!("cargo:rustc-env=ORIGINAL_SOURCES={}", source.display());
     let out = PathBuf::from(env::var("OUT_DIR").expect("set by cargo"));
     let journal = env::var("CARGO_PKG_NAME").is_ok_and(|name| name == "original-journal");
     for (module, folder, names) in FILES {

@@ -15,6 +15,7 @@ oracle fuzz FROM TO PROGRAM [ARGS..]
 oracle compare [--library] --histories N --seed S [--profile P]
 oracle cover FROM TO [PROFILE..]
 oracle record FOLDER
+oracle sources
 oracle texts > texts
 oracle amounts < texts > amounts";
 
@@ -35,6 +36,7 @@ fn main() {
         ["compare", ref options @ ..] => print_compared(options),
         ["cover", from, to, ref profiles @ ..] => print_cover(number(from), number(to), profiles),
         ["record", folder] => print_recorded(folder),
+        ["sources"] => print_all(&original::sources().map_or(String::new(), |folder| format!("{folder}\n"))),
         ["texts"] => std::io::stdout().write_all(&oracle::texts::texts()).is_ok(),
         ["amounts"] => print_all(&oracle::amounts::amounts(&read_input())),
         _ => usage(),

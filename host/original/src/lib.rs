@@ -33,6 +33,11 @@ pub const fn at_hand() -> bool {
     cfg!(at_hand)
 }
 
+/// The folder whose `rust/` has the files that are compiled in.
+pub fn sources() -> Option<&'static str> {
+    option_env!("ORIGINAL_SOURCES").filter(|_| at_hand())
+}
+
 /// A new tree over empty holdings; none where the sources are not at hand.
 /// The journal room is heeded in `original-journal` only.
 #[cfg(at_hand)]
