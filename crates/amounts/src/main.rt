@@ -1,14 +1,18 @@
 // Each line of standard input is read as an amount text (document 01, "Amounts"), and answered by a line: its value in hexadecimal, or
 // `?` where it is unreadable. A line may be empty and may hold any byte but a newline, and the last one needs no newline.
 // What it writes is compared with the answers of Rust's own `u128`.
+#![tactic(auto)]
+
 ghost use Rattle.std.specs.Prelude.{◌<◌, ◌≤◌, length};
 
 use amount::{Amount, Order, Reading};
+use std::io;
+use std::io::Read;
 
 // A value below 2^128 has at most as many hexadecimal digits.
 const DIGITS: usize = 32;
 
-// The input is shorter: where the buffer is full there may be more.
+// The input is shorter: where so many bytes are read there may be more.
 const ROOM: usize = 65536;
 
 fn digit(d: u8) -> u8
@@ -30,42 +34,36 @@ fn hex(a: Amount, text: &mut [u8; 32]) -> usize
     ensures { result ≤ 32 }
 {
     let mut left = a;
-    let mut at = DIGITS;
-    while at > 0 {
+    for at in (0..DIGITS).rev() {
         let split = amount::sixteenth(left);
         left = split.rest;
-        at -= 1;
         text[at] = digit(split.digit);
         if is_zero(left) {
             return at;
         }
     }
-    at
+    0
 }
 
-fn write_from(text: &[u8; 32], at: usize)
+fn write_from(rt: &impl Print, text: &[u8; 32], at: usize) -> io::Result<()>
     requires { at ≤ 32 }
 {
     let all: &[u8] = text;
-    io::write_all(1, &all[at..]);
+    rt.write_all(&all[at..])
 }
 
-fn print(a: Amount) {
+fn print(rt: &impl Print, a: Amount) -> io::Result<()> {
     let mut text = [b'0'; 32];
     let at = hex(a, &mut text);
-    io::write_all(1, b"0x");
-    write_from(&text, at);
-    io::write_all(1, b"\n");
+    rt.write_all(b"0x")?;
+    write_from(rt, &text, at)?;
+    rt.write_all(b"\n")
 }
 
-fn answer(text: &[u8]) {
+fn answer(rt: &impl Print, text: &[u8]) -> io::Result<()> {
     match amount::read(text) {
-        Reading::Readable(a) => {
-            print(a);
-        }
-        Reading::Unreadable => {
-            io::write_all(1, b"?\n");
-        }
+        Reading::Readable(a) => print(rt, a),
+        Reading::Unreadable => rt.write_all(b"?\n"),
     }
 }
 
@@ -74,31 +72,30 @@ fn line_end(text: &[u8], from: usize) -> usize
     requires { from ≤ length text.now }
     ensures { (from ≤ result) × (result ≤ length text.now) }
 {
-    let mut end = from;
-    while end < text.len() {
+    for end in from..text.len() {
         if text[end] == b'\n' {
             return end;
         }
-        end += 1;
     }
-    end
+    text.len()
 }
 
-fn answer_lines(text: &[u8]) {
+fn answer_lines(rt: &impl Print, text: &[u8]) -> io::Result<()> {
     let mut at = 0;
     while at < text.len() {
         let end = line_end(text, at);
-        answer(&text[at..end]);
+        answer(rt, &text[at..end])?;
         at = end + 1;
     }
+    Ok(())
 }
 
-fn main() {
-    let mut buf = io::large_buffer();
-    let n = io::read_full(0, &mut buf);
-    if n < ROOM {
-        answer_lines(&buf[..n]);
+fn main(rt: HostRuntime) -> io::Result<()> {
+    let mut buf = Vec::new(rt.alloc());
+    rt.reader().take(ROOM as u64).read_to_end(&mut buf)?;
+    if buf.len() < ROOM {
+        answer_lines(&rt, &buf)
     } else {
-        io::write_all(1, b"the input is longer than 65535 bytes\n");
+        rt.write_all(b"the input is longer than 65535 bytes\n")
     }
 }

@@ -4,21 +4,22 @@ use crate::reasons::Reasoned;
 use crate::words::{Flagged, Hashed, Numbered, Quoted, Rival, Timed};
 use crate::{reasons, words, write};
 use block::{Block, Competing, Copy, Header, Why};
+use std::io;
 
 // STORE BLOCK
-#[derive(Drop)]
+#[derive(Clone, Copy)]
 pub enum Given {
     In(u64, Block),
     No,
 }
 
-#[derive(Drop)]
+#[derive(Clone, Copy)]
 enum Headed {
     Header(Header),
     No,
 }
 
-#[derive(Drop)]
+#[derive(Clone, Copy)]
 enum Copied {
     Copy(Copy),
     No,
@@ -96,65 +97,66 @@ pub fn read(line: &[u8]) -> Given {
 
 // ---- writing ----
 
-fn flags(orphaned: bool, canonical: bool) {
+fn flags(rt: &impl Print, orphaned: bool, canonical: bool) -> io::Result<()> {
     if orphaned {
-        write::out(b"o");
+        write::out(rt, b"o")?;
         if canonical {
-            write::out(b"c");
+            write::out(rt, b"c")?;
         }
+        Ok(())
     } else if canonical {
-        write::out(b"c");
+        write::out(rt, b"c")
     } else {
-        write::out(b"-");
+        write::out(rt, b"-")
     }
 }
 
-fn why(w: Why) {
+fn why(rt: &impl Print, w: Why) -> io::Result<()> {
     match w {
-        Why::None => write::out(b"-"),
-        Why::Because(reason) => reasons::write(reason),
+        Why::None => write::out(rt, b"-"),
+        Why::Because(reason) => reasons::write(rt, reason),
     }
 }
 
-fn other(x: Competing) {
+fn other(rt: &impl Print, x: Competing) -> io::Result<()> {
     match x {
-        Competing::None => write::out(b"-"),
-        Competing::With(h) => write::hash(h),
+        Competing::None => write::out(rt, b"-"),
+        Competing::With(h) => write::hash(rt, h),
     }
 }
 
-fn write_header(h: Header) {
+fn write_header(rt: &impl Print, h: Header) -> io::Result<()> {
     let target = h.target;
     let actual = h.actual;
-    write::hash(h.hash);
-    write::out(b" ");
-    write::number(h.index);
-    write::out(b" ");
-    write::number(h.epoch);
-    write::out(b" ");
-    write::hash(h.prev);
-    write::out(b" ");
-    write::reading(target);
-    write::out(b" ");
-    write::reading(actual);
+    write::hash(rt, h.hash)?;
+    write::out(rt, b" ")?;
+    write::number(rt, h.index)?;
+    write::out(rt, b" ")?;
+    write::number(rt, h.epoch)?;
+    write::out(rt, b" ")?;
+    write::hash(rt, h.prev)?;
+    write::out(rt, b" ")?;
+    write::reading(rt, target)?;
+    write::out(rt, b" ")?;
+    write::reading(rt, actual)
 }
 
 // FLAGS TIME REASON OTHER
-pub fn write_copy(c: Copy) {
+pub fn write_copy(rt: &impl Print, c: Copy) -> io::Result<()> {
     let time = c.time;
     let reason = c.reason;
     let competing = c.competing;
-    flags(c.orphaned, c.canonical);
-    write::out(b" ");
-    write::time(time);
-    write::out(b" ");
-    why(reason);
-    write::out(b" ");
-    other(competing);
+    flags(rt, c.orphaned, c.canonical)?;
+    write::out(rt, b" ")?;
+    write::time(rt, time)?;
+    write::out(rt, b" ")?;
+    why(rt, reason)?;
+    write::out(rt, b" ")?;
+    other(rt, competing)
 }
 
-pub fn write(b: Block) {
-    write_header(b.header);
-    write::out(b" ");
-    write_copy(b.copy);
+pub fn write(rt: &impl Print, b: Block) -> io::Result<()> {
+    write_header(rt, b.header)?;
+    write::out(rt, b" ")?;
+    write_copy(rt, b.copy)
 }

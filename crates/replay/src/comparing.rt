@@ -3,14 +3,15 @@ use crate::words::{Hashed, Numbered, Quoted};
 use crate::{answers, words};
 use amount::Reading;
 use block::{Side, Work};
+use std::io;
 
-#[derive(Drop)]
+#[derive(Clone, Copy)]
 enum Worked {
     Work(Work),
     No,
 }
 
-#[derive(Drop)]
+#[derive(Clone, Copy)]
 enum Sided {
     Side(Side),
     No,
@@ -44,23 +45,23 @@ fn side(first: &[u8], second: &[u8], third: &[u8]) -> Sided {
 }
 
 // A line of seven words. Asks no memory but whether there was a start.
-pub fn choose(line: &[u8], mem: &[u64]) {
+pub fn choose(rt: &impl Print, line: &[u8], mem: &[u64]) -> io::Result<()> {
     let Sided::Side(local) = side(
         words::word(line, 1),
         words::word(line, 2),
         words::word(line, 3),
     ) else {
-        return answers::no_call();
+        return answers::no_call(rt);
     };
     let Sided::Side(peer) = side(
         words::word(line, 4),
         words::word(line, 5),
         words::word(line, 6),
     ) else {
-        return answers::no_call();
+        return answers::no_call(rt);
     };
     if memory::room(mem) == 0 {
-        return answers::no_start();
+        return answers::no_start(rt);
     }
-    answers::chosen(cadraspes::choose(local, peer));
+    answers::chosen(rt, cadraspes::choose(local, peer))
 }

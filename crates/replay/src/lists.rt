@@ -5,6 +5,7 @@ ghost use Rattle.std.specs.Prelude.{◌+◌, ◌≤◌, length};
 use crate::{blocks, write};
 use block::Kept;
 use hash::Hash;
+use std::io;
 
 // A list as long as could be needed.
 pub const WHOLE: u64 = 18446744073709551615;
@@ -38,59 +39,56 @@ fn hash_at(list: &[u8], at: usize) -> Hash
     requires { at + 32 ≤ length list.now }
 {
     let mut bytes = [0u8; 32];
-    let mut i = 0;
-    while i < 32 {
+    for i in 0..32 {
         bytes[i] = list[at + i];
-        i += 1;
     }
     hash::from_bytes(&bytes)
 }
 
 // Writes the first n hashes, a line each.
-pub fn hashes(list: &[u8], n: usize) {
+pub fn hashes(rt: &impl Print, list: &[u8], n: usize) -> io::Result<()> {
     let mut at = 0;
-    let mut left = n;
-    while left > 0 {
+    for _ in 0..n {
         if list.len() - at < 32 {
-            return;
+            return Ok(());
         }
-        write::out(b"  ");
-        write::hash(hash_at(list, at));
-        write::out(b"\n");
+        write::out(rt, b"  ")?;
+        write::hash(rt, hash_at(list, at))?;
+        write::out(rt, b"\n")?;
         at += 32;
-        left -= 1;
     }
+    Ok(())
 }
 
 // HASH FLAGS TIME REASON OTHER, of the sixteen words from the place `at` on.
-fn entry(list: &[u64], at: usize)
+fn entry(rt: &impl Print, list: &[u64], at: usize) -> io::Result<()>
     requires { at + 16 ≤ length list.now }
 {
-    write::hash(Hash {
+    let h = Hash {
         first: list[at],
         second: list[at + 1],
         third: list[at + 2],
         fourth: list[at + 3],
-    });
-    write::out(b" ");
+    };
+    write::hash(rt, h)?;
+    write::out(rt, b" ")?;
     match rows::read_copy(list, at + 4) {
-        Kept::Copy(c) => blocks::write_copy(c),
-        Kept::None => {}
+        Kept::Copy(c) => blocks::write_copy(rt, c),
+        Kept::None => Ok(()),
     }
 }
 
 // Writes the first n entries, a line each.
-pub fn entries(list: &[u64], n: usize) {
+pub fn entries(rt: &impl Print, list: &[u64], n: usize) -> io::Result<()> {
     let mut at = 0;
-    let mut left = n;
-    while left > 0 {
+    for _ in 0..n {
         if list.len() - at < 16 {
-            return;
+            return Ok(());
         }
-        write::out(b"  ");
-        entry(list, at);
-        write::out(b"\n");
+        write::out(rt, b"  ")?;
+        entry(rt, list, at)?;
+        write::out(rt, b"\n")?;
         at += 16;
-        left -= 1;
     }
+    Ok(())
 }

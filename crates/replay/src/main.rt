@@ -1,6 +1,8 @@
 // Replays a history (docs/HISTORY.md) on the library: calls on standard input, a line each, and their answers on standard output.
 // This file reads the lines and tells the calls apart; `holding`, `syncing`, `questions`, `comparing` and `planning` make the calls,
 // `words`, `reasons` and `blocks` read what stands in a line, `answers`, `lists` and `write` write.
+#![tactic(auto)]
+
 mod answers;
 mod blocks;
 mod comparing;
@@ -13,7 +15,10 @@ mod syncing;
 mod words;
 mod write;
 
-ghost use Rattle.std.specs.Prelude.{◌≤◌, length};
+ghost use Rattle.std.specs.Prelude.{◌≤◌, length, IfOk};
+
+use std::io;
+use std::io::Read;
 
 // The greatest length of a line and its end, in bytes.
 const TEXT: usize = 65536;
@@ -33,54 +38,62 @@ const ENTRIES: usize = 72000;
 
 // ---- a line ----
 
-fn call(name: &[u8], line: &[u8], mem: &mut [u64]) {
+fn call(rt: &impl Print, name: &[u8], line: &[u8], mem: &mut [u64]) -> io::Result<()> {
     match words::place(name, b"reload load put remove answer sync") {
-        0 => holding::reload(line, mem),
-        1 => holding::load(line, mem),
-        2 => holding::put(line, mem),
-        3 => holding::remove(line, mem),
-        4 => holding::answer(line, mem),
-        5 => syncing::sync(line, mem),
-        _ => questions::question(name, line, mem),
+        0 => holding::reload(rt, line, mem),
+        1 => holding::load(rt, line, mem),
+        2 => holding::put(rt, line, mem),
+        3 => holding::remove(rt, line, mem),
+        4 => holding::answer(rt, line, mem),
+        5 => syncing::sync(rt, line, mem),
+        _ => questions::question(rt, name, line, mem),
     }
 }
 
 // Answers a call, and gives the length that later lists are lent at.
 fn answer_call(
+    rt: &impl Print,
     line: &[u8],
     mem: &mut [u64],
     list: &mut [u8],
     entries: &mut [u64],
     lent: u64,
-) -> u64 {
+) -> io::Result<u64> {
     let name = words::word(line, 0);
     match words::place(name, b"start lend changes leaves select adopt") {
-        0 => return holding::start(line, mem, lent),
-        1 => return holding::lend(line, mem, lent),
-        2 => holding::changes(line, mem, list, lent),
-        3 => syncing::leaves(line, mem, list, lent),
-        4 => planning::select(line, mem, entries, lent),
-        5 => planning::adopt(line, mem, entries, lent),
-        _ => call(name, line, mem),
+        0 => return holding::start(rt, line, mem, lent),
+        1 => return holding::lend(rt, line, mem, lent),
+        2 => holding::changes(rt, line, mem, list, lent)?,
+        3 => syncing::leaves(rt, line, mem, list, lent)?,
+        4 => planning::select(rt, line, mem, entries, lent)?,
+        5 => planning::adopt(rt, line, mem, entries, lent)?,
+        _ => call(rt, name, line, mem)?,
     }
-    lent
+    Ok(lent)
 }
 
 // An empty line and a remark answer nothing.
-fn answer(line: &[u8], mem: &mut [u64], list: &mut [u8], entries: &mut [u64], lent: u64) -> u64 {
+fn answer(
+    rt: &impl Print,
+    line: &[u8],
+    mem: &mut [u64],
+    list: &mut [u8],
+    entries: &mut [u64],
+    lent: u64,
+) -> io::Result<u64> {
     if line.len() == 0 {
-        return lent;
+        return Ok(lent);
     }
     if line[0] == b'#' {
-        return lent;
+        return Ok(lent);
     }
-    answer_call(line, mem, list, entries, lent)
+    answer_call(rt, line, mem, list, entries, lent)
 }
 
 // ---- the lines of a text ----
 
 // How far a text is answered, and the length that later lists are lent at.
-#[derive(Drop)]
+#[derive(Clone, Copy)]
 struct Answered {
     to: usize,
     lent: u64,
@@ -88,32 +101,33 @@ struct Answered {
 
 // Answers the lines that end in the text.
 fn answer_lines(
+    rt: &impl Print,
     text: &[u8],
     mem: &mut [u64],
     list: &mut [u8],
     entries: &mut [u64],
     lent: u64,
-) -> Answered
-    ensures { result.to ≤ length text.now }
+) -> io::Result<Answered>
+    ensures { IfOk result (λ answered. answered.to ≤ length text.now) }
 {
     let mut to = 0;
     let mut now = lent;
     while to < text.len() {
-        let end = bytes::scan::find(text, to, text.len(), b'\n');
+        let end = words::find(text, to, text.len(), b'\n');
         if end == text.len() {
-            return Answered { to, lent: now };
+            return Ok(Answered { to, lent: now });
         }
-        now = answer(&text[to..end], mem, list, entries, now);
+        now = answer(rt, &text[to..end], mem, list, entries, now)?;
         to = end + 1;
     }
-    Answered { to, lent: now }
+    Ok(Answered { to, lent: now })
 }
 
 // ---- the input ----
 
 // What a turn leaves to the next: so many bytes of a line that has not ended yet, at the front of the text; the length that lists are
 // lent at; whether what comes belongs to a line that was too long; whether the input has ended.
-#[derive(Drop)]
+#[derive(Clone, Copy)]
 struct Left {
     held: usize,
     lent: u64,
@@ -130,11 +144,10 @@ fn part_end(held: usize, n: usize) -> usize
 }
 
 // Reads once.
-fn more(room: &mut [u8]) -> usize
-    ensures { result ≤ length room.old }
+fn more(input: &mut impl Read, room: &mut [u8]) -> io::Result<usize>
+    ensures { IfOk result (λ got. got ≤ length room.old) }
 {
-    let got = libc::read(libc::STDIN_FILENO, room);
-    io::count(got, room)
+    input.read(room)
 }
 
 // The bytes from `from` up to `to` go to the front. Answers how many they are.
@@ -142,29 +155,35 @@ fn shift(text: &mut [u8], from: usize, to: usize) -> usize
     requires { (from ≤ to) × (to ≤ length text.old) }
 {
     let n = to - from;
-    let mut i = 0;
-    while i < n {
+    for i in 0..n {
         text[i] = text[from + i];
-        i += 1;
     }
     n
 }
 
 // The last line needs no newline.
-fn end(text: &[u8], mem: &mut [u64], list: &mut [u8], entries: &mut [u64], left: Left) -> Left {
+fn end(
+    rt: &impl Print,
+    text: &[u8],
+    mem: &mut [u64],
+    list: &mut [u8],
+    entries: &mut [u64],
+    left: Left,
+) -> io::Result<Left> {
     if !left.long {
-        answer(text, mem, list, entries, left.lent);
+        answer(rt, text, mem, list, entries, left.lent)?;
     }
-    Left {
+    Ok(Left {
         held: 0,
         lent: left.lent,
         long: false,
         ended: true,
-    }
+    })
 }
 
 // Answers the lines that end before `have`, from `from` on.
 fn part(
+    rt: &impl Print,
     text: &mut [u8],
     mem: &mut [u64],
     list: &mut [u8],
@@ -172,18 +191,18 @@ fn part(
     lent: u64,
     from: usize,
     have: usize,
-) -> Left
+) -> io::Result<Left>
     requires { (from ≤ have) × (have ≤ length text.old) }
 {
-    let answered = answer_lines(&text[from..have], mem, list, entries, lent);
+    let answered = answer_lines(rt, &text[from..have], mem, list, entries, lent)?;
     let to = from + answered.to;
     let held = shift(text, to, have);
-    Left {
+    Ok(Left {
         held,
         lent: answered.lent,
         long: false,
         ended: false,
-    }
+    })
 }
 
 // What comes belongs to a line that was too long.
@@ -198,78 +217,83 @@ fn passing_over(lent: u64) -> Left {
 
 // The same, of a line that was too long: what is left of it is passed over first.
 fn late_part(
+    rt: &impl Print,
     text: &mut [u8],
     mem: &mut [u64],
     list: &mut [u8],
     entries: &mut [u64],
     lent: u64,
     have: usize,
-) -> Left
+) -> io::Result<Left>
     requires { have ≤ length text.old }
 {
-    let from = bytes::scan::find(text, 0, have, b'\n');
+    let from = words::find(text, 0, have, b'\n');
     if from == have {
-        return passing_over(lent);
+        return Ok(passing_over(lent));
     }
-    part(text, mem, list, entries, lent, from + 1, have)
+    part(rt, text, mem, list, entries, lent, from + 1, have)
 }
 
 // A line that does not fit the text is said to be too long, and the rest of it is passed over.
 fn turn(
+    rt: &impl Print,
+    input: &mut impl Read,
     text: &mut [u8],
     mem: &mut [u64],
     list: &mut [u8],
     entries: &mut [u64],
     left: Left,
-) -> Left {
+) -> io::Result<Left> {
     let held = left.held;
     if text.len() <= held {
-        answers::too_long();
-        return passing_over(left.lent);
+        answers::too_long(rt)?;
+        return Ok(passing_over(left.lent));
     }
     let to = part_end(held, text.len());
-    let got = more(&mut text[held..to]);
+    let got = more(input, &mut text[held..to])?;
     if got == 0 {
-        return end(&text[0..held], mem, list, entries, left);
+        return end(rt, &text[0..held], mem, list, entries, left);
     }
     if left.long {
-        return late_part(text, mem, list, entries, left.lent, held + got);
+        return late_part(rt, text, mem, list, entries, left.lent, held + got);
     }
-    part(text, mem, list, entries, left.lent, 0, held + got)
+    part(rt, text, mem, list, entries, left.lent, 0, held + got)
 }
 
-// A proved loop ends, and nothing says that an input does: the turns are counted down from a number that no run uses up.
-fn replay(text: &mut [u8], mem: &mut [u64], list: &mut [u8], entries: &mut [u64]) {
+// A proved loop ends, and nothing says that an input does: the turns are as many as no run uses up.
+fn replay(
+    rt: &impl Print,
+    input: &mut impl Read,
+    text: &mut [u8],
+    mem: &mut [u64],
+    list: &mut [u8],
+    entries: &mut [u64],
+) -> io::Result<()> {
     let mut left = Left {
         held: 0,
         lent: lists::WHOLE,
         long: false,
         ended: false,
     };
-    let mut turns = u64::MAX;
-    while turns > 0 {
-        left = turn(text, mem, list, entries, left);
+    for _ in 0..u64::MAX {
+        left = turn(rt, input, text, mem, list, entries, left)?;
         if left.ended {
-            return;
+            return Ok(());
         }
-        turns -= 1;
     }
+    Ok(())
 }
 
-// (Arrays of a known length are made slices here, where nothing counts their elements.)
-fn replay_in(
-    text: &mut [u8; TEXT],
-    mem: &mut [u64; WORDS],
-    list: &mut [u8; LIST],
-    entries: &mut [u64; ENTRIES],
-) {
-    replay(text, mem, list, entries);
+// Replays what comes on standard input. (What is lent is large, and stands on the heap.)
+fn replay_in<R: Print + Input + AllocGlobal>(rt: &R) -> io::Result<()> {
+    let mut text = vec![in rt.alloc(); 0u8; TEXT]?;
+    let mut mem = vec![in rt.alloc(); 0u64; WORDS]?;
+    let mut list = vec![in rt.alloc(); 0u8; LIST]?;
+    let mut entries = vec![in rt.alloc(); 0u64; ENTRIES]?;
+    let mut input = rt.reader();
+    replay(rt, &mut input, &mut text, &mut mem, &mut list, &mut entries)
 }
 
-fn main() {
-    let mut text = [0u8; TEXT];
-    let mut mem = [0u64; WORDS];
-    let mut list = [0u8; LIST];
-    let mut entries = [0u64; ENTRIES];
-    replay_in(&mut text, &mut mem, &mut list, &mut entries);
+fn main(rt: HostRuntime) -> io::Result<()> {
+    replay_in(&rt)
 }

@@ -2,16 +2,17 @@
 // their own that is lent to the library, sixteen words each.
 use crate::words::{Integer, Numbered};
 use crate::{answers, lists, words};
+use std::io;
 use walks::Floor;
 
-#[derive(Drop)]
+#[derive(Clone, Copy)]
 enum Floored {
     Floor(Floor),
     No,
 }
 
 // What a plan has behind its name.
-#[derive(Drop)]
+#[derive(Clone, Copy)]
 enum Termed {
     Terms(Floor, u64, i64),
     No,
@@ -44,20 +45,32 @@ fn terms(line: &[u8]) -> Termed {
     Termed::Terms(floor, n, clock)
 }
 
-pub fn select(line: &[u8], mem: &mut [u64], entries: &mut [u64], lent: u64) {
+pub fn select(
+    rt: &impl Print,
+    line: &[u8],
+    mem: &mut [u64],
+    entries: &mut [u64],
+    lent: u64,
+) -> io::Result<()> {
     let Termed::Terms(floor, n, clock) = terms(line) else {
-        return answers::no_call();
+        return answers::no_call(rt);
     };
     let k = lists::lent_words(entries.len(), lent);
     let given = cadraspes::select(mem, floor, n, clock, &mut entries[0..k]);
-    answers::planned(given, entries);
+    answers::planned(rt, given, entries)
 }
 
-pub fn adopt(line: &[u8], mem: &mut [u64], entries: &mut [u64], lent: u64) {
+pub fn adopt(
+    rt: &impl Print,
+    line: &[u8],
+    mem: &mut [u64],
+    entries: &mut [u64],
+    lent: u64,
+) -> io::Result<()> {
     let Termed::Terms(floor, n, clock) = terms(line) else {
-        return answers::no_call();
+        return answers::no_call(rt);
     };
     let k = lists::lent_words(entries.len(), lent);
     let given = cadraspes::adopt(mem, floor, n, clock, &mut entries[0..k]);
-    answers::planned(given, entries);
+    answers::planned(rt, given, entries)
 }

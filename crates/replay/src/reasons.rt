@@ -3,14 +3,15 @@ use crate::words::{Hashed, Numbered};
 use crate::{words, write};
 use amount::Amount;
 use block::{Reason, Why};
+use std::io;
 
-#[derive(Drop)]
+#[derive(Clone, Copy)]
 pub enum Reasoned {
     Why(Why),
     No,
 }
 
-#[derive(Drop)]
+#[derive(Clone, Copy)]
 enum Summed {
     Amount(Amount),
     No,
@@ -161,32 +162,32 @@ fn kind(reason: Reason) -> usize {
     }
 }
 
-fn works(a: Amount, b: Amount) {
-    write::amount(a);
-    write::out(b":");
-    write::amount(b);
+fn works(rt: &impl Print, a: Amount, b: Amount) -> io::Result<()> {
+    write::amount(rt, a)?;
+    write::out(rt, b":")?;
+    write::amount(rt, b)
 }
 
-fn tips(i: u64, j: u64) {
-    write::number(i);
-    write::out(b":");
-    write::number(j);
+fn tips(rt: &impl Print, i: u64, j: u64) -> io::Result<()> {
+    write::number(rt, i)?;
+    write::out(rt, b":")?;
+    write::number(rt, j)
 }
 
-fn numbers(reason: Reason) {
+fn numbers(rt: &impl Print, reason: Reason) -> io::Result<()> {
     match reason {
-        Reason::SameTip(h) => write::hash(h),
-        Reason::PeerOnly(a) | Reason::LocalOnly(a) => write::amount(a),
-        Reason::PeerWork(a, b) | Reason::LocalWork(a, b) => works(a, b),
-        Reason::PeerTip(i, j) | Reason::LocalTip(i, j) => tips(i, j),
-        Reason::Neither | Reason::PeerHash | Reason::LocalHash => {}
-        Reason::OffSpine | Reason::CompetingFork | Reason::StaleFork => {}
+        Reason::SameTip(h) => write::hash(rt, h),
+        Reason::PeerOnly(a) | Reason::LocalOnly(a) => write::amount(rt, a),
+        Reason::PeerWork(a, b) | Reason::LocalWork(a, b) => works(rt, a, b),
+        Reason::PeerTip(i, j) | Reason::LocalTip(i, j) => tips(rt, i, j),
+        Reason::Neither | Reason::PeerHash | Reason::LocalHash => Ok(()),
+        Reason::OffSpine | Reason::CompetingFork | Reason::StaleFork => Ok(()),
     }
 }
 
-pub fn write(reason: Reason) {
+pub fn write(rt: &impl Print, reason: Reason) -> io::Result<()> {
     let words: &[u8] =
         b"same-tip: neither peer-only: local-only: peer-work: local-work: peer-tip: local-tip: peer-hash local-hash off-spine competing stale";
-    write::out(words::nth(words, b' ', kind(reason)));
-    numbers(reason);
+    write::out(rt, words::nth(words, b' ', kind(reason)))?;
+    numbers(rt, reason)
 }

@@ -1,6 +1,6 @@
 // The words of a line (docs/HISTORY.md, "Words"): where each stands, and the numbers, hashes, times and flags that it may say. Two
 // spaces in a row have an empty word between them, which says nothing, so that no call has it.
-ghost use Rattle.std.specs.Prelude.{◌≤◌, length};
+ghost use Rattle.std.specs.Prelude.{ℕ, ◌<◌, ◌≡◌, ◌≢◌, ◌≤◌, length, slice_index};
 
 use amount::Reading;
 use block::{Competing, Time};
@@ -66,6 +66,21 @@ pub enum Pair {
 
 // ---- where words stand ----
 
+// Where the first such byte stands, from `from` on and before `to`; `to` where there is none.
+pub fn find(text: &[u8], from: usize, to: usize, byte: u8) -> usize
+    requires { (from ≤ to) × (to ≤ length text.now) }
+    ensures within { (from ≤ result) × (result ≤ to) }
+    ensures before { (k : ℕ) → from ≤ k → k < result → slice_index text.now k ≢ byte }
+    ensures found { result < to → slice_index text.now result ≡ byte }
+{
+    for i in from..to {
+        if text[i] == byte {
+            return i;
+        }
+    }
+    to
+}
+
 // Where the word that begins at `at` ends. A TEXT may hold the separator, so in one it is looked for behind the second quote.
 fn word_end(line: &[u8], separator: u8, at: usize) -> usize
     requires { at ≤ length line.now }
@@ -74,11 +89,11 @@ fn word_end(line: &[u8], separator: u8, at: usize) -> usize
     let n = line.len();
     if at < n {
         if line[at] == b'"' {
-            let close = bytes::scan::find(line, at + 1, n, b'"');
-            return bytes::scan::find(line, close, n, separator);
+            let close = find(line, at + 1, n, b'"');
+            return find(line, close, n, separator);
         }
     }
-    bytes::scan::find(line, at, n, separator)
+    find(line, at, n, separator)
 }
 
 // How many words there are.
@@ -97,14 +112,12 @@ fn begin(line: &[u8], separator: u8, i: usize) -> usize
     ensures { result ≤ length line.now }
 {
     let mut at = 0;
-    let mut left = i;
-    while left > 0 {
+    for _ in 0..i {
         let end = word_end(line, separator, at);
         if end == line.len() {
             return end;
         }
         at = end + 1;
-        left -= 1;
     }
     at
 }
@@ -127,28 +140,16 @@ pub fn has(line: &[u8], n: usize) -> bool {
 }
 
 pub fn is(word: &[u8], name: &[u8]) -> bool {
-    if word.len() != name.len() {
-        return false;
-    }
-    let mut i = 0;
-    while i < name.len() {
-        if word[i] != name[i] {
-            return false;
-        }
-        i += 1;
-    }
-    true
+    word == name
 }
 
 // The number of a word among names, counted from 0; how many there are where it is none of them.
 pub fn place(word: &[u8], names: &[u8]) -> usize {
     let n = count(names, b' ');
-    let mut i = 0;
-    while i < n {
+    for i in 0..n {
         if is(word, nth(names, b' ', i)) {
             return i;
         }
-        i += 1;
     }
     n
 }
@@ -181,9 +182,8 @@ pub fn number(word: &[u8]) -> Numbered {
         return Numbered::No;
     }
     let mut sum: u64 = 0;
-    let mut i = 0;
-    while i < word.len() {
-        let d = decimal_digit(word[i]);
+    for b in word {
+        let d = decimal_digit(*b);
         if 9 < d {
             return Numbered::No;
         }
@@ -191,7 +191,6 @@ pub fn number(word: &[u8]) -> Numbered {
             return Numbered::No;
         }
         sum = sum * 10 + d;
-        i += 1;
     }
     Numbered::Number(sum)
 }
@@ -252,9 +251,8 @@ pub fn time(word: &[u8]) -> Timed {
 
 fn hex(digits: &[u8]) -> Numbered {
     let mut sum: u64 = 0;
-    let mut i = 0;
-    while i < digits.len() {
-        let d = hex_digit(digits[i]);
+    for b in digits {
+        let d = hex_digit(*b);
         if 15 < d {
             return Numbered::No;
         }
@@ -262,7 +260,6 @@ fn hex(digits: &[u8]) -> Numbered {
             return Numbered::No;
         }
         sum = sum * 16 + d;
-        i += 1;
     }
     Numbered::Number(sum)
 }
@@ -328,7 +325,7 @@ pub fn text(word: &[u8]) -> Quoted {
     if word[0] != b'"' {
         return Quoted::No;
     }
-    let close = bytes::scan::find(word, 1, n, b'"');
+    let close = find(word, 1, n, b'"');
     if close + 1 != n {
         return Quoted::No;
     }

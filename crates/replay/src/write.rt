@@ -2,74 +2,70 @@
 use amount::{Amount, Reading};
 use block::Time;
 use hash::Hash;
+use std::io;
 
-pub fn out(text: &[u8]) {
-    io::write_all(libc::STDOUT_FILENO, text);
+pub fn out(rt: &impl Print, text: &[u8]) -> io::Result<()> {
+    rt.write_all(text)
 }
 
-pub fn number(n: u64) {
-    io::print_decimal(libc::STDOUT_FILENO, n);
+pub fn number(rt: &impl Print, n: u64) -> io::Result<()> {
+    rt.print(n)
 }
 
 // ---- hexadecimal, the leading zeros dropped ----
 
 // A word that others follow: whole where digits stand before it. Answers whether digits stand there now.
-fn upper(word: u64, digits: bool) -> bool {
+fn upper(rt: &impl Print, word: u64, digits: bool) -> io::Result<bool> {
     if digits {
-        io::print_hex(libc::STDOUT_FILENO, word, 16);
-        return true;
+        print!(rt; "{word:016x}")?;
+        return Ok(true);
     }
     if word == 0 {
-        return false;
+        return Ok(false);
     }
-    io::print_hex(libc::STDOUT_FILENO, word, 1);
-    true
+    print!(rt; "{word:x}")?;
+    Ok(true)
 }
 
 // The last word: one digit at least.
-fn last(word: u64, digits: bool) {
+fn last(rt: &impl Print, word: u64, digits: bool) -> io::Result<()> {
     if digits {
-        io::print_hex(libc::STDOUT_FILENO, word, 16);
+        print!(rt; "{word:016x}")
     } else {
-        io::print_hex(libc::STDOUT_FILENO, word, 1);
+        print!(rt; "{word:x}")
     }
 }
 
-pub fn hash(h: Hash) {
-    let first = upper(h.first, false);
-    let second = upper(h.second, first);
-    let third = upper(h.third, second);
-    last(h.fourth, third);
+pub fn hash(rt: &impl Print, h: Hash) -> io::Result<()> {
+    let first = upper(rt, h.first, false)?;
+    let second = upper(rt, h.second, first)?;
+    let third = upper(rt, h.third, second)?;
+    last(rt, h.fourth, third)
 }
 
-pub fn amount(a: Amount) {
-    out(b"0x");
+pub fn amount(rt: &impl Print, a: Amount) -> io::Result<()> {
+    out(rt, b"0x")?;
     let words = amount::to_words(a);
-    let high = upper(words.second, false);
-    last(words.first, high);
+    let high = upper(rt, words.second, false)?;
+    last(rt, words.first, high)
 }
 
-pub fn reading(r: Reading) {
+pub fn reading(rt: &impl Print, r: Reading) -> io::Result<()> {
     match r {
-        Reading::Readable(a) => amount(a),
-        Reading::Unreadable => out(b"?"),
+        Reading::Readable(a) => amount(rt, a),
+        Reading::Unreadable => out(rt, b"?"),
     }
 }
 
 // ---- times ----
 
-fn signed(x: i64) {
-    if x < 0 {
-        out(b"-");
-        number((-1 - x) as u64 + 1);
-    } else {
-        number(x as u64);
-    }
+fn signed(rt: &impl Print, x: i64) -> io::Result<()> {
+    rt.print(x)
 }
 
-pub fn time(t: Time) {
+pub fn time(rt: &impl Print, t: Time) -> io::Result<()> {
     match t {
-        Time::None => out(b"-"),
-        Time::At(x) => signed(x),
+        Time::None => out(rt, b"-"),
+        Time::At(x) => signed(rt, x),
     }
 }
