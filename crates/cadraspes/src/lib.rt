@@ -1,6 +1,8 @@
 // The library: every call of document 01 and nothing else, twice. For programs in Rattle the calls on the types of `block`, each where it is
-// proved; for a host the same as functions of C, on numbers and slices. There a call gives back document 01's number, 0 or a refusal; a question
-// writes its answer into words that the host lends, and a refusal leaves them as they were.
+// proved; for a host the same on numbers and slices, which `cadraspes_c` exports as functions of C. There a call gives back document 01's
+// number, 0 or a refusal; a question writes its answer into words that the host lends, and a refusal leaves them as they were.
+#![tactic(auto)]
+
 ghost use Rattle.std.specs.Prelude.{◌≡◌, length};
 ghost use Rattle.amount.specs.Amounts.{reading};
 ghost use Rattle.boundary.specs.Compared.{ChoiceTold, CoversTold, side_meant};
@@ -43,8 +45,7 @@ pub use plans::{adopt, select};
 
 // ---- start and reload, the holdings, sync ----
 
-#[unsafe(no_mangle)]
-pub extern "C" fn cadraspes_start(
+pub fn cadraspes_start(
     mem: &mut [u64],
     hashes: u64,
     journal: u64,
@@ -56,15 +57,13 @@ pub extern "C" fn cadraspes_start(
     block::numbers::done_number(clearing::start(mem, hashes, journal, generation, version))
 }
 
-#[unsafe(no_mangle)]
-pub extern "C" fn cadraspes_reload(mem: &mut [u64], generation: u64, version: u64) -> u64
+pub fn cadraspes_reload(mem: &mut [u64], generation: u64, version: u64) -> u64
     ensures { Reloads generation version mem.old mem.new result }
 {
     block::numbers::done_number(clearing::reload(mem, generation, version))
 }
 
-#[unsafe(no_mangle)]
-pub extern "C" fn cadraspes_load(
+pub fn cadraspes_load(
     mem: &mut [u64],
     store: u64,
     hash: &[u8; 32],
@@ -81,8 +80,7 @@ pub extern "C" fn cadraspes_load(
     block::numbers::done_number(arrivals::load(mem, store, b))
 }
 
-#[unsafe(no_mangle)]
-pub extern "C" fn cadraspes_put(
+pub fn cadraspes_put(
     mem: &mut [u64],
     store: u64,
     hash: &[u8; 32],
@@ -99,16 +97,14 @@ pub extern "C" fn cadraspes_put(
     block::numbers::done_number(arrivals::put(mem, store, b))
 }
 
-#[unsafe(no_mangle)]
-pub extern "C" fn cadraspes_remove(mem: &mut [u64], store: u64, hash: &[u8; 32]) -> u64
+pub fn cadraspes_remove(mem: &mut [u64], store: u64, hash: &[u8; 32]) -> u64
     ensures { moves.Done (numbers.remove store (bytes_number hash.now)) mem.old mem.new result }
 {
     let h = hash::from_bytes(hash);
     block::numbers::done_number(holdings::remove(mem, store, h))
 }
 
-#[unsafe(no_mangle)]
-pub extern "C" fn cadraspes_answer(mem: &mut [u64], hash: &[u8; 32], answer: u64) -> u64
+pub fn cadraspes_answer(mem: &mut [u64], hash: &[u8; 32], answer: u64) -> u64
     ensures { moves.Done (numbers.answer (bytes_number hash.now) answer) mem.old mem.new result }
 {
     let h = hash::from_bytes(hash);
@@ -116,8 +112,7 @@ pub extern "C" fn cadraspes_answer(mem: &mut [u64], hash: &[u8; 32], answer: u64
 }
 
 // Never refused on a memory that a start laid out.
-#[unsafe(no_mangle)]
-pub extern "C" fn cadraspes_sync(mem: &mut [u64]) -> u64
+pub fn cadraspes_sync(mem: &mut [u64]) -> u64
     ensures { Keeps numbers.sync mem.old mem.new result }
 {
     block::numbers::done_number(tree::sync(mem))
@@ -125,31 +120,27 @@ pub extern "C" fn cadraspes_sync(mem: &mut [u64]) -> u64
 
 // ---- questions about the holdings ----
 
-#[unsafe(no_mangle)]
-pub extern "C" fn cadraspes_generation(mem: &[u64], out: &mut u64) -> u64
+pub fn cadraspes_generation(mem: &[u64], out: &mut u64) -> u64
     ensures { Counts generation_q mem.now out.old out.new result }
 {
     boundary::telling::tell_count(holdings::generation(mem), out)
 }
 
-#[unsafe(no_mangle)]
-pub extern "C" fn cadraspes_version(mem: &[u64], out: &mut u64) -> u64
+pub fn cadraspes_version(mem: &[u64], out: &mut u64) -> u64
     ensures { Counts version_q mem.now out.old out.new result }
 {
     boundary::telling::tell_count(holdings::version(mem), out)
 }
 
 // How many hashes have an effective record.
-#[unsafe(no_mangle)]
-pub extern "C" fn cadraspes_effective_count(mem: &[u64], out: &mut u64) -> u64
+pub fn cadraspes_effective_count(mem: &[u64], out: &mut u64) -> u64
     ensures { Counts effective_count_q mem.now out.old out.new result }
 {
     boundary::telling::tell_count(holdings::effective_count(mem), out)
 }
 
 // The effective record of a hash: 1, the sixteen words of its header and the twelve of its copy; or 0, and the rest stays as it was.
-#[unsafe(no_mangle)]
-pub extern "C" fn cadraspes_effective(mem: &[u64], hash: &[u8; 32], out: &mut [u64; 29]) -> u64
+pub fn cadraspes_effective(mem: &[u64], hash: &[u8; 32], out: &mut [u64; 29]) -> u64
     ensures { Shows (effective_q (bytes_number hash.now)) mem.now out.old out.new result }
 {
     let h = hash::from_bytes(hash);
@@ -158,8 +149,7 @@ pub extern "C" fn cadraspes_effective(mem: &[u64], hash: &[u8; 32], out: &mut [u
 
 // The hashes touched since a generation and a version, 32 bytes each, in the order of their last touch: 1 and how many; or 0 and 0 where
 // none are to be had.
-#[unsafe(no_mangle)]
-pub extern "C" fn cadraspes_changes(
+pub fn cadraspes_changes(
     mem: &[u64],
     generation: u64,
     version: u64,
@@ -174,8 +164,7 @@ pub extern "C" fn cadraspes_changes(
 // ---- questions about the tree ----
 
 // The live block of a hash, as the effective record is shown.
-#[unsafe(no_mangle)]
-pub extern "C" fn cadraspes_node(mem: &[u64], hash: &[u8; 32], out: &mut [u64; 29]) -> u64
+pub fn cadraspes_node(mem: &[u64], hash: &[u8; 32], out: &mut [u64; 29]) -> u64
     ensures { TreeShows (questions.node (bytes_number hash.now)) mem.now out.old out.new result }
 {
     let h = hash::from_bytes(hash);
@@ -183,8 +172,7 @@ pub extern "C" fn cadraspes_node(mem: &[u64], hash: &[u8; 32], out: &mut [u64; 2
 }
 
 // The parent of a live block, shown alike.
-#[unsafe(no_mangle)]
-pub extern "C" fn cadraspes_parent(mem: &[u64], hash: &[u8; 32], out: &mut [u64; 29]) -> u64
+pub fn cadraspes_parent(mem: &[u64], hash: &[u8; 32], out: &mut [u64; 29]) -> u64
     ensures { TreeShows (parent_q (bytes_number hash.now)) mem.now out.old out.new result }
 {
     let h = hash::from_bytes(hash);
@@ -192,20 +180,14 @@ pub extern "C" fn cadraspes_parent(mem: &[u64], hash: &[u8; 32], out: &mut [u64;
 }
 
 // A linked value: 0 and two zeros for none, else 1, or 2 where proofs are ok, and the two words of work, the lower first.
-#[unsafe(no_mangle)]
-pub extern "C" fn cadraspes_linked(mem: &[u64], hash: &[u8; 32], out: &mut [u64; 3]) -> u64
+pub fn cadraspes_linked(mem: &[u64], hash: &[u8; 32], out: &mut [u64; 3]) -> u64
     ensures { TreeWorths (linked_q (bytes_number hash.now)) mem.now out.old out.new result }
 {
     let h = hash::from_bytes(hash);
     boundary::telling::tell_worth(asking::linked(mem, h), out)
 }
 
-#[unsafe(no_mangle)]
-pub extern "C" fn cadraspes_canonical_linked(
-    mem: &[u64],
-    hash: &[u8; 32],
-    out: &mut [u64; 3],
-) -> u64
+pub fn cadraspes_canonical_linked(mem: &[u64], hash: &[u8; 32], out: &mut [u64; 3]) -> u64
     ensures { TreeWorths (canonical_linked_q (bytes_number hash.now)) mem.now out.old out.new result }
 {
     let h = hash::from_bytes(hash);
@@ -213,33 +195,25 @@ pub extern "C" fn cadraspes_canonical_linked(
 }
 
 // The best block, shown as the effective record is, and its linked value.
-#[unsafe(no_mangle)]
-pub extern "C" fn cadraspes_best(mem: &[u64], out: &mut [u64; 29], value: &mut [u64; 3]) -> u64
+pub fn cadraspes_best(mem: &[u64], out: &mut [u64; 29], value: &mut [u64; 3]) -> u64
     ensures { TreeTips best_q mem.now out.old out.new value.old value.new result }
 {
     boundary::telling::tell_tip(asking::best(mem), out, value)
 }
 
-#[unsafe(no_mangle)]
-pub extern "C" fn cadraspes_canonical_best(
-    mem: &[u64],
-    out: &mut [u64; 29],
-    value: &mut [u64; 3],
-) -> u64
+pub fn cadraspes_canonical_best(mem: &[u64], out: &mut [u64; 29], value: &mut [u64; 3]) -> u64
     ensures { TreeTips canonical_best_q mem.now out.old out.new value.old value.new result }
 {
     boundary::telling::tell_tip(asking::canonical_best(mem), out, value)
 }
 
-#[unsafe(no_mangle)]
-pub extern "C" fn cadraspes_canonical_count(mem: &[u64], out: &mut u64) -> u64
+pub fn cadraspes_canonical_count(mem: &[u64], out: &mut u64) -> u64
     ensures { TreeCounts canonical_count_q mem.now out.old out.new result }
 {
     boundary::telling::tell_count(asking::canonical_count(mem), out)
 }
 
-#[unsafe(no_mangle)]
-pub extern "C" fn cadraspes_live_count(mem: &[u64], out: &mut u64) -> u64
+pub fn cadraspes_live_count(mem: &[u64], out: &mut u64) -> u64
     ensures { TreeCounts live_count_q mem.now out.old out.new result }
 {
     boundary::telling::tell_count(asking::live_count(mem), out)
@@ -247,8 +221,7 @@ pub extern "C" fn cadraspes_live_count(mem: &[u64], out: &mut u64) -> u64
 
 // The leaves by rising hash, 32 bytes each: 1 and how many. (The list is put in order with the help of words of the memory that nothing else
 // reads, so the memory is lent to be written.)
-#[unsafe(no_mangle)]
-pub extern "C" fn cadraspes_leaves(mem: &mut [u64], list: &mut [u8], out: &mut [u64; 2]) -> u64
+pub fn cadraspes_leaves(mem: &mut [u64], list: &mut [u8], out: &mut [u64; 2]) -> u64
     ensures { TreeLists mem.old mem.new list.old list.new out.old out.new result }
 {
     boundary::telling::tell_listed(leaves::leaves(mem, list), out)
@@ -259,8 +232,7 @@ pub extern "C" fn cadraspes_leaves(mem: &mut [u64], list: &mut [u8], out: &mut [
 // A side is 1 and the two words of its work, the lower first, or any other number and two words that are not looked at where its work is
 // unknown; then its tip's index; and apart its tip's hash. Writes the outcome, 0 equal, 1 keep local, 2 adopt peer, and the reason as a
 // shown block has it: its kind and four words.
-#[unsafe(no_mangle)]
-pub extern "C" fn cadraspes_choose(
+pub fn cadraspes_choose(
     local: &[u64; 4],
     local_hash: &[u8; 32],
     peer: &[u64; 4],
@@ -276,8 +248,7 @@ pub extern "C" fn cadraspes_choose(
 }
 
 // 1 where a tip of this index and epoch covers its nomination epoch, with so many blocks to an epoch; else 0.
-#[unsafe(no_mangle)]
-pub extern "C" fn cadraspes_covers(index: u64, epoch: u64, per_epoch: u64) -> u64
+pub fn cadraspes_covers(index: u64, epoch: u64, per_epoch: u64) -> u64
     ensures { CoversTold index epoch per_epoch result }
 {
     boundary::comparing::flag(choice::covers(index, epoch, per_epoch))
@@ -286,8 +257,7 @@ pub extern "C" fn cadraspes_covers(index: u64, epoch: u64, per_epoch: u64) -> u6
 // ---- amounts ----
 
 // Reads an amount text: 1 and its value's two words, the lower first; three zeros where it is unreadable.
-#[unsafe(no_mangle)]
-pub extern "C" fn cadraspes_amount(text: &[u8], out: &mut [u64; 3]) -> u64
+pub fn cadraspes_amount(text: &[u8], out: &mut [u64; 3]) -> u64
     ensures { (result ≡ 0) × AmountTold (reading text.now) out.new }
 {
     let x = amount::read(text);
@@ -298,8 +268,7 @@ pub extern "C" fn cadraspes_amount(text: &[u8], out: &mut [u64; 3]) -> u64
 // ---- the two plans ----
 
 // Select, with a floor unless `floor_given` is 0: 1, `changed` and how many entries, which stand in the list; three zeros for a scan.
-#[unsafe(no_mangle)]
-pub extern "C" fn cadraspes_select(
+pub fn cadraspes_select(
     mem: &mut [u64],
     floor_given: u64,
     floor: u64,
@@ -321,8 +290,7 @@ pub extern "C" fn cadraspes_select(
     boundary::planning::tell_begun(b, k, out)
 }
 
-#[unsafe(no_mangle)]
-pub extern "C" fn cadraspes_adopt(
+pub fn cadraspes_adopt(
     mem: &mut [u64],
     floor_given: u64,
     floor: u64,

@@ -8,7 +8,7 @@ use std::path::{Path, PathBuf};
 #[derive(Debug)]
 pub struct Wrong {
     /// Each a function, as `words/flags` of src/words.rt, or a law of a file of
-    /// proofs/, as `Cases.best-by-work`.
+    /// proofs/, as `Cases.best_by_work`.
     pub refused: Vec<String>,
     pub file: String,
     pub old: String,
@@ -58,26 +58,32 @@ impl Wrong {
     /// last that begins before the place's end and has not ended before it.
     /// None of a constant, of what a contract brings in, and of specs.
     pub fn function(&self, source: &Path) -> Option<String> {
-        let module = self.file.strip_prefix("src/")?.strip_suffix(".rt")?;
         let text = fs::read_to_string(source.join(&self.file)).ok()?;
         let end = text.find(&self.old)? + self.old.len();
-        let mut name = None;
-        for line in text[..end].lines() {
-            let begins = line.trim_start_matches("pub ").trim_start_matches("extern \"C\" ").strip_prefix("fn ");
-            match begins.and_then(|rest| rest.split(['(', '<']).next()) {
-                Some(begun) => name = Some(begun),
-                None if line == "}" => name = None,
-                None => {}
-            }
-        }
-        let name = name?;
-        Some(if module == "lib" || module == "main" { name.into() } else { format!("{module}/{name}") })
+        function_at(&self.file, &text[..end].lines().collect::<Vec<&str>>())
     }
+}
+
+/// The function of a file of src/ that the last of its lines stands in, these
+/// being the first of the file.
+pub fn function_at(file: &str, lines: &[&str]) -> Option<String> {
+    let module = file.strip_prefix("src/")?.strip_suffix(".rt")?;
+    let (mut name, mut has_ended) = (None, false);
+    for line in lines {
+        if has_ended {
+            name = None;
+        }
+        has_ended = *line == "}";
+        let begins = line.trim_start_matches("pub ").trim_start_matches("extern \"C\" ").strip_prefix("fn ");
+        name = begins.and_then(|rest| rest.split(['(', '<']).next()).or(name);
+    }
+    let name = name?;
+    Some(if module == "lib" || module == "main" { name.into() } else { format!("{module}/{name}") })
 }
 
 /// The files of a crate that an edit changes, as they are with it. Each place
 /// must stand there once.
-pub fn applied(edit: &[Wrong], source: &Path) -> Result<BTreeMap<PathBuf, String>, String> {
+pub fn applied(edit: &[&Wrong], source: &Path) -> Result<BTreeMap<PathBuf, String>, String> {
     let mut all = BTreeMap::new();
     for wrong in edit {
         let text = match all.remove(Path::new(&wrong.file)) {

@@ -1,21 +1,22 @@
 //! A wrong answer is a change of one place of a crate that the prover must
 //! refuse, and because a fact fails, not because a proof no longer fits. rt
-//! tries the edits of `must-fail/`, and this looks into what the prover said of
-//! them. Those of `must-fail/alone/` it tries itself: wrong definitions, whose
-//! reach is wide, and further wrong answers of a function.
-pub mod alone;
+//! tries the edits of `must-fail/`, whether the crate is refused with each. This
+//! tries them once more, and looks into what the prover says of each of their
+//! places.
 pub mod edit;
 pub mod judge;
+pub mod kept;
 pub mod kit;
-pub mod log;
+pub mod names;
+pub mod passed;
+pub mod said;
 pub mod shape;
 
-use alone::{Kept, PARTS};
 use edit::Wrong;
-use judge::Tried;
+use judge::Judge;
+use kept::Kept;
 use kit::Repository;
-use shape::Lowered;
-use std::collections::BTreeMap;
+use std::collections::{BTreeMap, BTreeSet};
 use std::path::{Path, PathBuf};
 use std::sync::atomic::{AtomicUsize, Ordering};
 use std::sync::Mutex;
@@ -28,9 +29,7 @@ struct Crate<'a> {
     name: &'a str,
     source: PathBuf,
     edits: Vec<PathBuf>,
-    before: BTreeMap<String, Lowered>,
-    /// Only where some of the edits are tried alone.
-    kept: Option<Kept<'a>>,
+    kept: Kept<'a>,
     seconds: f64,
 }
 
@@ -38,7 +37,6 @@ struct Crate<'a> {
 pub struct Report {
     pub name: String,
     pub edits: usize,
-    pub alone: usize,
     pub wrong: usize,
     pub seconds: f64,
     pub faults: Vec<String>,
@@ -54,20 +52,21 @@ impl<'a> Crate<'a> {
         let began = Instant::now();
         let (name, label) = named.split_once('/').map_or((named, None), |(name, label)| (name, Some(label)));
         let source = repository.source(name);
-        let mut edits = alone::edits(&source).map_err(|error| io::Error::other(format!("{named}: {error}")))?;
+        let mut edits = kept::edits(&source).map_err(|error| io::Error::other(format!("{named}: {error}")))?;
         edits.retain(|path| label.is_none_or(|label| path.file_stem().is_some_and(|stem| stem == label)));
         if edits.is_empty() {
             return Err(io::Error::other(format!("there is no edit of {named}")));
         }
-        let before = shape::functions(&repository.lowered(name, &source)?);
-        let kept = if edits.iter().any(|path| is_alone(path)) { Some(Kept::new(repository, name)?) } else { None };
-        Ok(Crate { repository, name, source, edits, before, kept, seconds: began.elapsed().as_secs_f64() })
+        let read = edits.iter().filter_map(|path| edit::read(&fs::read_to_string(path).ok()?).ok());
+        let named_by = |wrong: &Wrong| wrong.refused.iter().cloned().chain(wrong.function(&source)).collect::<Vec<_>>();
+        let functions: BTreeSet<String> = read.flatten().flat_map(|wrong| named_by(&wrong)).collect();
+        let kept = Kept::new(repository, name, &functions)?;
+        Ok(Crate { repository, name, source, edits, kept, seconds: began.elapsed().as_secs_f64() })
     }
 
     fn report(&self, judged: impl Iterator<Item = Judged>) -> Report {
-        let alone = self.edits.iter().filter(|path| is_alone(path)).count();
         let (name, edits) = (self.name.to_string(), self.edits.len());
-        let mut report = Report { name, edits, alone, wrong: 0, seconds: self.seconds, faults: Vec::new() };
+        let mut report = Report { name, edits, wrong: 0, seconds: self.seconds, faults: Vec::new() };
         for (path, (judged, seconds)) in self.edits.iter().zip(judged) {
             let (wrong, faults) = judged.unwrap_or_else(|fault| (0, vec![fault]));
             let shown = path.strip_prefix(&self.repository.root).unwrap_or(path).display();
@@ -87,49 +86,19 @@ impl<'a> Crate<'a> {
         let told = |error: io::Error| error.to_string();
         let edit = edit::read(&fs::read_to_string(path).map_err(told)?)?;
         let label = path.file_stem().map(|stem| stem.to_string_lossy().into_owned()).unwrap_or_default();
-        let (log, folder) = match &self.kept {
-            Some(kept) if is_alone(path) => kept.tried(&label, &edit).map_err(told)?,
-            _ => self.run(&self.repository.root.join("target/must-fail").join(self.name).join(label), &edit)?,
+        let folder = self.repository.root.join("target/wrong-answers").join(self.name);
+        let number = AtomicUsize::new(0);
+        let keep = |said: &str| {
+            fs::create_dir_all(&folder)?;
+            let name = match number.fetch_add(1, Ordering::Relaxed) {
+                0 => format!("{label}.log"),
+                number => format!("{label}.{number}.log"),
+            };
+            fs::write(folder.join(name), said)
         };
-        let after = match edit.iter().any(|wrong| wrong.file.starts_with("src/")) {
-            true => Some(shape::functions(&self.repository.lowered(self.name, &folder).map_err(told)?)),
-            false => None,
-        };
-        let tried = Tried {
-            crate_name: self.name,
-            source: &self.source,
-            edit: &edit,
-            before: &self.before,
-            after: after.as_ref().unwrap_or(&self.before),
-            log: &log,
-        };
-        Ok((edit.len(), tried.faults()))
+        let judge = Judge { crate_name: self.name, source: &self.source, kept: &self.kept, edit: &edit };
+        Ok((edit.len(), judge.faults(keep).map_err(told)?))
     }
-
-    /// What the prover said when rt tried this edit on this crate.
-    fn run(&self, folder: &Path, edit: &[Wrong]) -> Result<(String, PathBuf), String> {
-        let applied = edit::applied(edit, &self.source)?;
-        let same = |file: &PathBuf| {
-            let text = applied.get(file).map(|text| text.clone().into_bytes());
-            let expected = text.map_or_else(|| fs::read(self.source.join(file)), Ok);
-            expected.is_ok_and(|expected| fs::read(folder.join(file)).is_ok_and(|text| text == expected))
-        };
-        let part = |part: &&str| {
-            kit::files(&self.source.join(part))
-                .into_iter()
-                .flatten()
-                .map(|file| Path::new(part).join(file))
-                .collect::<Vec<_>>()
-        };
-        match fs::read_to_string(folder.join(".log")) {
-            Ok(log) if PARTS.iter().flat_map(part).all(|file| same(&file)) => Ok((log, folder.into())),
-            _ => Err(format!("rt has not tried it as it is: rt must-fail {}", self.name)),
-        }
-    }
-}
-
-fn is_alone(path: &Path) -> bool {
-    path.parent().is_some_and(|folder| folder.ends_with("alone"))
 }
 
 /// Looks at every wrong answer of the crates named, or at those of an edit that

@@ -123,10 +123,27 @@ fn the_boundary_calls_what_the_header_declares() {
 
 #[test]
 fn the_library_exports_what_the_header_declares() {
-    let exported = functions(&text("crates/cadraspes/src/lib.rt"), "\npub extern \"C\" fn ");
+    let exported = functions(&text("crates/cadraspes_c/src/lib.rt"), "\npub extern \"C\" fn ");
     let in_c = declared();
     assert!(!in_c.is_empty());
     assert_eq!(in_c.keys().collect::<BTreeSet<_>>(), exported.keys().collect::<BTreeSet<_>>());
+}
+
+/// Each function of a text with all that stands before its body, arguments and
+/// clauses.
+fn heads<'a>(text: &'a str, before: &str) -> BTreeMap<&'a str, String> {
+    let head = |part: &'a str| Some((part.split_once('(')?.0, part.split_once("\n{\n")?.0));
+    let all = text.split(before).skip(1).filter_map(head).filter(|(name, _)| name.starts_with("cadraspes_"));
+    // how lines are broken says nothing
+    all.map(|(name, head)| (name, head.split_whitespace().collect::<String>().replace(",)", ")"))).collect()
+}
+
+#[test]
+fn the_library_promises_what_its_calls_do() {
+    let (calls, exports) = (text("crates/cadraspes/src/lib.rt"), text("crates/cadraspes_c/src/lib.rt"));
+    let exports = heads(&exports, "\npub extern \"C\" fn ");
+    assert_eq!(exports, heads(&calls, "\npub fn "));
+    assert!(exports.len() > 1 && exports.values().all(|head| head.contains("ensures")));
 }
 
 /// The constants of an enum, by their numbers, from the one of this name on.

@@ -1,5 +1,6 @@
 //! A folder of a test's own.
 use std::path::{Path, PathBuf};
+use std::process::Command;
 use std::{env, fs, process};
 
 pub struct Folder(pub PathBuf);
@@ -18,12 +19,15 @@ impl Folder {
         fs::write(path, text).expect("a file in the folder");
     }
 
-    /// A copy of a tool, over this folder instead of the repository.
-    pub fn tool(&self, name: &str) -> PathBuf {
+    /// A copy of a tool, over this folder instead of the repository. (bash reads
+    /// it: a file just written cannot always be run while others start programs.)
+    pub fn tool(&self, name: &str) -> Command {
         self.write(&format!("tools/{name}"), "");
         let copy = self.0.join("tools").join(name);
         fs::copy(root().join("tools").join(name), &copy).expect("a tool of the repository");
-        copy
+        let mut bash = Command::new("bash");
+        bash.arg(copy);
+        bash
     }
 }
 

@@ -1,6 +1,6 @@
 //! tools/replay-input: every recorded history is replayed but the one named.
 use crate::folder::Folder;
-use std::process::{Command, Output};
+use std::process::Output;
 
 const LARGE: &str = "start 32768 200000 1 0\n";
 
@@ -16,7 +16,7 @@ fn recorded(name: &str) -> Folder {
 }
 
 fn run(folder: &Folder, args: &[&str]) -> Output {
-    Command::new(folder.tool("replay-input")).args(args).output().expect("bash")
+    folder.tool("replay-input").args(args).output().expect("bash")
 }
 
 fn refused(folder: &Folder, expected: &str) {

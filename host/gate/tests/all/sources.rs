@@ -61,7 +61,7 @@ fn other_files_than_the_commits_are_an_error() {
         assert!(digests.contains(file), "{file}");
         folder.write(&format!("docs/src/rust/{file}"), "");
     }
-    let told = |args: &[&str]| Command::new(folder.tool("original")).args(args).output().expect("bash");
+    let told = |args: &[&str]| folder.tool("original").args(args).output().expect("bash");
     assert!(!told(&[&folder.0.join("docs/src").display().to_string()]).status.success());
     let none = told(&[""]);
     assert!(none.status.success() && String::from_utf8_lossy(&none.stdout).starts_with("original: NOT at hand"));
