@@ -1,6 +1,8 @@
 // Amounts of up to 128 bits (document 01, "Amounts" and the first line of "Port order"): reading a text, comparing, adding with
 // overflow, subtracting to zero. An amount is two limbs that no other crate can look into: every promise speaks of its value.
 // The work is done on plain words, in a private function beside each public one.
+#![tactic(auto)]
+
 ghost use Rattle.std.specs.Prelude.{◌*◌, ◌+◌, ◌-◌, ◌<◌, ◌^◌, ◌≤◌, ◌≡◌};
 ghost use Rattle.amount.specs.Amounts.{reading};
 ghost use Rattle.amount.specs.Value.{Added, Ordered, Sixteenths, Worth, from_words, meant, value};
@@ -13,40 +15,40 @@ const HALF: u64 = 4294967296;
 // The largest word that is still a word with any digit written after it: ten times it and nine more is 2^64 - 7.
 const SMALL: u64 = 1844674407370955160;
 
-#[derive(Drop)]
+#[derive(Clone, Copy)]
 pub struct Amount {
     limb0: u64,
     limb1: u64,
 }
 
 // An amount as it stands in a memory.
-#[derive(Drop)]
+#[derive(Clone, Copy)]
 pub struct Words {
     pub first: u64,
     pub second: u64,
 }
 
-#[derive(Drop)]
+#[derive(Clone, Copy)]
 pub enum Sum {
     Fits(Amount),
     TooLarge,
 }
 
-#[derive(Drop)]
+#[derive(Clone, Copy)]
 pub enum Order {
     Less,
     Equal,
     Greater,
 }
 
-#[derive(Drop)]
+#[derive(Clone, Copy)]
 pub enum Reading {
     Readable(Amount),
     Unreadable,
 }
 
 // An amount without its last hexadecimal digit, and that digit.
-#[derive(Drop)]
+#[derive(Clone, Copy)]
 pub struct Split {
     pub rest: Amount,
     pub digit: u8,
@@ -82,7 +84,7 @@ pub fn to_words(a: Amount) -> Words
     }
 }
 
-#[derive(Drop)]
+#[derive(Clone, Copy)]
 struct Carried {
     word: u64,
     carry: u64,

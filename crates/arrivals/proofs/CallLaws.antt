@@ -5,21 +5,20 @@ use mathlib.Core.List.{List}
 use mathlib.Core.Option.{Option, none, some}
 use Prim.Native.Nat.{ℕ, zero, suc, ◌+◌, ◌*◌, ◌≤◌, ◌<◌}
 use native.Mathlib.Omega.{arith}
-use lib.ListN.{length}
 use lib.Dec.{eqb, ltb}
 use borrow.Author.Tests.{eqb-true, eqb-false, eq-eqb, ne_eqb, lt-ltb, le-ltb}
 use Rattle.amount.specs.Choose.{◌if◌else◌}
-use Rattle.model.specs.Places.{first, is_some}
-use Rattle.model.specs.Holding.{store_of, active, forks, canon, Cell, free, held, Held, Holdings, is_free, has_room, place_of, free_place, has_copy, cell_has, copy_in, test_at, answered, answer_of, dropped, take_answer, drop}
+use Rattle.model.specs.Places.{is_some}
+use Rattle.model.specs.Holding.{store_of, Cell, free, held, Holdings, is_free, has_room, place_of, has_copy, cell_has, copy_in, test_at, answered, answer_of, dropped, take_answer, drop}
 use Rattle.model.specs.Numbers.{State, Call, number, step, effect, answer, remove, is_final, cell_final, clashes, max_word}
 use Rattle.model.proofs.Tools.{first_some}
 use Rattle.memory.specs.Words.{word}
 use Rattle.memory.specs.Layout.{row, Laid}
 use Rattle.rows.specs.Rows.{copy_at, held_at}
 use Rattle.rows.proofs.RowLaws.{copy_none, copy_some}
-use Rattle.state.specs.View.{cells_of, view, view_at}
-use Rattle.state.specs.Sound.{Sound, SoundAt, Used, placed}
-use Rattle.state.specs.Moves.{Stands, Apart, Moves, Right, Done, with_cell}
+use Rattle.state.specs.View.{view_at}
+use Rattle.state.specs.Sound.{SoundAt, placed}
+use Rattle.state.specs.Moves.{Stands, Apart, Moves, Done, with_cell}
 use Rattle.state.proofs.FindLaws.{placed_in, placed_out, cell_used, used_is}
 use Rattle.state.proofs.TouchSteps.{touched}
 use Rattle.places.specs.Steps.{Marks, TakesOut}

@@ -4,20 +4,18 @@ use mathlib.Core.Path.{◌≡◌, refl, sym, ap, ◌∙◌}
 use mathlib.Core.Bool.{Bool, true, false, not}
 use mathlib.Core.List.{List}
 use mathlib.Core.Option.{Option, none, some}
-use Prim.Native.Nat.{ℕ, ◌+◌, ◌*◌, ◌≤◌, ◌<◌}
+use Prim.Native.Nat.{ℕ, ◌+◌, ◌≤◌, ◌<◌}
 use native.Mathlib.Omega.{arith}
 use lib.Dec.{eqb, ltb}
 use borrow.Author.Tests.{eq-eqb, ne_eqb, lt-ltb, le-ltb}
 use Rattle.amount.specs.Choose.{◌if◌else◌}
 use Rattle.model.specs.Places.{is_some}
 use Rattle.model.specs.Record.{Header, Block, same_header}
-use Rattle.model.specs.Holding.{store_of, Cell, held, Holdings, is_free, place_of, free_place, kept, keep}
-use Rattle.model.specs.Numbers.{State, Call, number, effect, stale, load, put, max_word, other_header, full, cell_differs}
-use Rattle.block.specs.Answers.{refusal_number}
-use Rattle.block.specs.declared.Refusal.{Refusal}
+use Rattle.model.specs.Holding.{store_of, is_free, place_of, free_place, kept, keep}
+use Rattle.model.specs.Numbers.{State, number, effect, stale, load, put, max_word, other_header, full, cell_differs}
 use Rattle.memory.specs.Words.{word}
-use Rattle.memory.specs.Layout.{row, Laid}
-use Rattle.rows.specs.Rows.{header_at, held_at}
+use Rattle.memory.specs.Layout.{row}
+use Rattle.rows.specs.Rows.{header_at}
 use Rattle.state.specs.View.{view_at}
 use Rattle.state.specs.Sound.{SoundAt, placed}
 use Rattle.state.specs.Moves.{Stands, Apart, Moves, with_cell}

@@ -4,7 +4,7 @@ use mathlib.Core.List.{List}
 use Prim.Native.Nat.{ℕ, ◌≤◌, ◌<◌}
 use native.Mathlib.Omega.{arith}
 use lib.Dec.{eqb}
-use Rattle.model.specs.Numbers.{State, stale}
+use Rattle.model.specs.Numbers.{stale}
 use Rattle.memory.specs.Words.{word, Stored}
 use Rattle.memory.specs.Layout.{ring, Laid}
 use Rattle.memory.proofs.WordLaws.{stored_same, stored_other, stored_long}

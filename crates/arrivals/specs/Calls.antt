@@ -2,7 +2,6 @@
 -- model's, what is left stands for the model's next state, and what a sync keeps of the tree is as it was.
 use Rattle.std.specs.Prelude.{List, ◌≡◌, ℕ}
 use Rattle.model.specs.Numbers.{Call, number, step}
-use Rattle.memory.specs.Layout.{Laid}
 use Rattle.state.specs.View.{view_at}
 use Rattle.state.specs.Sound.{SoundAt}
 use Rattle.state.specs.Moves.{Stands, Apart}

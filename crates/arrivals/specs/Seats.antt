@@ -1,5 +1,5 @@
 -- Where a record goes: refused (3, 4, 5), in the room that its hash has, or in new room.
-use Rattle.std.specs.Prelude.{Bool, ◌≡◌, ℕ, ◌<◌, eqb}
+use Rattle.std.specs.Prelude.{◌≡◌, ℕ, ◌<◌, eqb}
 use Rattle.std.proofs.Math.Option.{none, some}
 use Rattle.amount.specs.Choose.{◌if◌else◌}
 use Rattle.model.specs.Record.{Block}

@@ -1,4 +1,6 @@
 // Load and put (document 01, "Holding blocks", "Numbers given back"): where a record goes, refusals in their order, and the steps.
+#![tactic(auto)]
+
 ghost use Rattle.std.specs.Prelude.{◌≡◌, ◌≤◌, ◌<◌};
 ghost use Rattle.block.specs.Answers.{done_number};
 ghost use Rattle.block.specs.Records.{block_means, header_means};
@@ -15,7 +17,7 @@ ghost use Rattle.state.specs.View.{view_at};
 use block::{Block, Done, Header, Refusal};
 
 // Where a record goes: refused, in the room that its hash has, or in new room.
-#[derive(Drop)]
+#[derive(Clone, Copy)]
 pub enum Seated {
     No(Refusal),
     Old(usize),

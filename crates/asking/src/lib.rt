@@ -1,5 +1,7 @@
 // The questions about the tree (document 01, "Numbers given back"): node, parent, linked, canonical linked, best, canonical best, canonical count, live
 // count; leaves are in a crate of their own. Each answers from what the last sync kept, or 12 if a sync does not cover the present.
+#![tactic(auto)]
+
 ghost use Rattle.std.specs.Prelude.{◌≡◌};
 ghost use Rattle.asking.specs.AskedTree.{AskedTree};
 ghost use Rattle.asking.specs.Within.{Answers, Begins, Bests, Tips, Worths};
@@ -18,7 +20,7 @@ use hash::Hash;
 use values::Value;
 
 // What a question begins with: it is refused, or it is answered at this room.
-#[derive(Drop)]
+#[derive(Clone, Copy)]
 pub enum Begun {
     No(Refusal),
     At(usize),

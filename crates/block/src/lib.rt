@@ -1,6 +1,8 @@
 // The plain types of all public calls (document 01, "Taken from the repository", "Numbers given back", "Forms that change"): records,
 // stores, answers and refusals. specs/ says what each means in document 01's terms. `numbers` has their numbers, `words` what a lent
 // memory keeps of them, `headers` when two headers are the same.
+#![tactic(auto)]
+
 use amount::{Amount, Reading};
 use hash::Hash;
 
@@ -10,7 +12,7 @@ pub mod words;
 
 // ---- the record ----
 
-#[derive(Drop)]
+#[derive(Clone, Copy)]
 pub struct Header {
     pub hash: Hash,
     pub index: u64,
@@ -20,14 +22,14 @@ pub struct Header {
     pub actual: Reading,
 }
 
-#[derive(Drop)]
+#[derive(Clone, Copy)]
 pub enum Time {
     None,
     At(i64),
 }
 
 // The kinds of sentence, with the numbers that each prints: the winner's first.
-#[derive(Drop)]
+#[derive(Clone, Copy)]
 pub enum Reason {
     SameTip(Hash),
     Neither,
@@ -44,20 +46,20 @@ pub enum Reason {
     StaleFork,
 }
 
-#[derive(Drop)]
+#[derive(Clone, Copy)]
 pub enum Why {
     None,
     Because(Reason),
 }
 
-#[derive(Drop)]
+#[derive(Clone, Copy)]
 pub enum Competing {
     None,
     With(Hash),
 }
 
 // What each store keeps of a record: two flags and the optional three.
-#[derive(Drop)]
+#[derive(Clone, Copy)]
 pub struct Copy {
     pub orphaned: bool,
     pub canonical: bool,
@@ -66,7 +68,7 @@ pub struct Copy {
     pub competing: Competing,
 }
 
-#[derive(Drop)]
+#[derive(Clone, Copy)]
 pub struct Block {
     pub header: Header,
     pub copy: Copy,
@@ -74,27 +76,27 @@ pub struct Block {
 
 // ---- stores and eligibility answers, which the host gives as numbers ----
 
-#[derive(Drop)]
+#[derive(Clone, Copy)]
 pub enum Store {
     Active,
     Forks,
     Canon,
 }
 
-#[derive(Drop)]
+#[derive(Clone, Copy)]
 pub enum Stored {
     In(Store),
     NoSuch,
 }
 
-#[derive(Drop)]
+#[derive(Clone, Copy)]
 pub enum Answer {
     Eligible,
     ForNow,
     Ineligible,
 }
 
-#[derive(Drop)]
+#[derive(Clone, Copy)]
 pub enum Answered {
     With(Answer),
     NoSuch,
@@ -102,7 +104,7 @@ pub enum Answered {
 
 // ---- what is given back ----
 
-#[derive(Drop)]
+#[derive(Clone, Copy)]
 pub enum Refusal {
     Room,
     Kind,
@@ -120,14 +122,14 @@ pub enum Refusal {
 }
 
 // Of a call.
-#[derive(Drop)]
+#[derive(Clone, Copy)]
 pub enum Done {
     Done,
     Refused(Refusal),
 }
 
 // Of effective record, node and parent.
-#[derive(Drop)]
+#[derive(Clone, Copy)]
 pub enum Shown {
     Block(Block),
     None,
@@ -135,7 +137,7 @@ pub enum Shown {
 }
 
 // Of linked and canonical linked: work, and whether proofs are ok.
-#[derive(Drop)]
+#[derive(Clone, Copy)]
 pub enum Worth {
     Linked(Amount, bool),
     None,
@@ -143,7 +145,7 @@ pub enum Worth {
 }
 
 // Of best and canonical best: the block, its work, and whether its proofs are ok.
-#[derive(Drop)]
+#[derive(Clone, Copy)]
 pub enum Tip {
     Best(Block, Amount, bool),
     None,
@@ -151,14 +153,14 @@ pub enum Tip {
 }
 
 // Of the counts, generation and version.
-#[derive(Drop)]
+#[derive(Clone, Copy)]
 pub enum Counted {
     Count(u64),
     Refused(Refusal),
 }
 
 // Of leaves and changes: how many hashes stand in the lent list.
-#[derive(Drop)]
+#[derive(Clone, Copy)]
 pub enum Listed {
     Count(usize),
     None,
@@ -166,7 +168,7 @@ pub enum Listed {
 }
 
 // Of the two plans: scan, or `changed` and how many entries stand in the lent list.
-#[derive(Drop)]
+#[derive(Clone, Copy)]
 pub enum Planned {
     Scan,
     Apply(u64, usize),
@@ -175,27 +177,27 @@ pub enum Planned {
 
 // ---- the comparison of two chains ----
 
-#[derive(Drop)]
+#[derive(Clone, Copy)]
 pub enum Work {
     Known(Amount),
     Unknown,
 }
 
-#[derive(Drop)]
+#[derive(Clone, Copy)]
 pub struct Side {
     pub work: Work,
     pub index: u64,
     pub hash: Hash,
 }
 
-#[derive(Drop)]
+#[derive(Clone, Copy)]
 pub enum Outcome {
     Equal,
     KeepLocal,
     AdoptPeer,
 }
 
-#[derive(Drop)]
+#[derive(Clone, Copy)]
 pub struct Choice {
     pub outcome: Outcome,
     pub reason: Reason,
@@ -203,7 +205,7 @@ pub struct Choice {
 
 // ---- what a lent memory keeps, in groups of four words ----
 
-#[derive(Drop)]
+#[derive(Clone, Copy)]
 pub struct Quad {
     pub a: u64,
     pub b: u64,
@@ -211,14 +213,14 @@ pub struct Quad {
     pub d: u64,
 }
 
-#[derive(Drop)]
+#[derive(Clone, Copy)]
 pub struct CopyWords {
     pub state: Quad,
     pub reason: Quad,
     pub competing: Quad,
 }
 
-#[derive(Drop)]
+#[derive(Clone, Copy)]
 pub struct HeaderWords {
     pub hash: Quad,
     pub prev: Quad,
@@ -227,7 +229,7 @@ pub struct HeaderWords {
 }
 
 // What a memory keeps at a store of a hash.
-#[derive(Drop)]
+#[derive(Clone, Copy)]
 pub enum Kept {
     None,
     Copy(Copy),

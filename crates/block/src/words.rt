@@ -29,20 +29,20 @@ use hash::Hash;
 // 2^63, what a time's word is below.
 const HALF: u64 = 9223372036854775808;
 
-#[derive(Drop)]
+#[derive(Clone, Copy)]
 struct AmountWords {
     kind: u64,
     first: u64,
     second: u64,
 }
 
-#[derive(Drop)]
+#[derive(Clone, Copy)]
 struct TimeWords {
     kind: u64,
     word: u64,
 }
 
-#[derive(Drop)]
+#[derive(Clone, Copy)]
 struct WhyWords {
     kind: u64,
     words: Quad,

@@ -1,7 +1,7 @@
 -- What is written for a host of a comparison says what was answered inside.
 use mathlib.Core.Bool.{Bool}
 use mathlib.Core.List.{List}
-use mathlib.Core.Path.{◌≡◌, refl, sym, ap, ◌∙◌, subst}
+use mathlib.Core.Path.{◌≡◌, sym, ap, ◌∙◌, subst}
 use Prim.Native.Nat.{ℕ}
 use native.Mathlib.Omega.{arith}
 use lib.ListN.{length}
@@ -14,7 +14,7 @@ use Rattle.block.specs.declared.Choice.{Choice}
 use Rattle.choice.specs.Parts.{Covering}
 use Rattle.memory.specs.Words.{word, seg, Stored, Four}
 use Rattle.memory.proofs.WordLaws.{stored_same, stored_other, stored_long}
-use Rattle.model.specs.Comparing.{Comparison, Side, choose_verified, covers}
+use Rattle.model.specs.Comparing.{Comparison, Side, choose_verified}
 use Rattle.boundary.specs.Compared.{outcome_number, ChoiceTold, CoversTold}
 
 -- ---- a choice ----

@@ -4,9 +4,8 @@ use mathlib.Core.List.{List}
 use mathlib.Core.Option.{some}
 use mathlib.Core.Path.{◌≡◌, sym, ◌∙◌}
 use Prim.Native.Nat.{ℕ}
-use Rattle.amount.specs.Choose.{◌if◌else◌}
 use Rattle.block.specs.Telling.{ReasonTold}
-use Rattle.block.specs.Words.{hash_of, reason_of, why_of}
+use Rattle.block.specs.Words.{reason_of, why_of}
 use Rattle.memory.specs.Words.{word, seg}
 use Rattle.model.specs.Comparing.{Comparison}
 use Rattle.model.specs.Record.{Reason, same_tip, neither, peer_only, local_only, peer_work, local_work, peer_tip, local_tip, peer_hash, local_hash, off_spine, competing_fork, stale_fork}

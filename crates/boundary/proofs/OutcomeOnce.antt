@@ -4,17 +4,15 @@
 --     tree-shows-once    node, parent
 --     tree-tips-once     both bests
 --     entry-plans-once   both plans
-use mathlib.Core.Bool.{Bool, true, false}
-use mathlib.Core.List.{List, [], ◌∷◌, ◌++◌}
+use mathlib.Core.List.{List, [], ◌∷◌}
 use mathlib.Core.Option.{Option, none, some}
 use mathlib.Core.Path.{◌≡◌, refl, sym, ap, subst, ◌∙◌}
 use Prim.Native.Nat.{ℕ, zero, suc, ◌≤◌, ◌<◌}
 use native.Mathlib.Omega.{arith}
-use lib.Dec.{eqb, leb}
+use lib.Dec.{eqb}
 use lib.ListN.{length, set, take, drop}
 use lib.Seq.{ext_get_or}
 use borrow.Author.Tests.{eqb-true, eqb-false, le-leb}
-use Rattle.amount.specs.Choose.{◌if◌else◌}
 use Rattle.asking.specs.Whole.{Whole}
 use Rattle.block.specs.Answers.{planned_number, planned_reply}
 use Rattle.block.specs.declared.Planned.{Planned}
@@ -24,7 +22,7 @@ use Rattle.entries.specs.declared.Entry.{Entry}
 use Rattle.entries.specs.Handing.{meanings, AllPlain}
 use Rattle.memory.specs.Words.{word}
 use Rattle.model.proofs.Tools.{by_bool}
-use Rattle.model.specs.Plans.{PlanCall, PlanReply, scanned, applied, plan_reply}
+use Rattle.model.specs.Plans.{PlanCall, PlanReply, scanned, applied}
 use Rattle.model.specs.Questions.{HoldingsQuestion, TreeQuestion, Reply, shown, worth, tip, counted, listed}
 use Rattle.model.specs.Record.{Block}
 use Rattle.model.specs.Standing.{Value, unlinked}
@@ -33,7 +31,6 @@ use Rattle.plans.specs.Plan.{handed}
 use Rattle.plans.proofs.CallLaws.{take-meanings}
 use Rattle.plans.proofs.PlanOnce.{plan_once}
 use Rattle.state.specs.Sound.{Sound}
-use Rattle.state.specs.View.{view}
 use Rattle.boundary.specs.Planning.{planned_in, EntryPlans}
 use Rattle.boundary.specs.Told.{block_in, ToldIn, Shows}
 use Rattle.boundary.specs.ToldTree.{ValueTold, TreeShows, TreeTips}

@@ -1,6 +1,6 @@
 -- What is kept of twelve words, where there is a copy and where there is none.
 use mathlib.Core.Option.{Option}
-use mathlib.Core.Path.{◌≡◌, refl, sym, ap, ◌∙◌}
+use mathlib.Core.Path.{◌≡◌, sym, ap, ◌∙◌}
 use Rattle.model.specs.Record as model
 use Rattle.block.specs.Records.{copy_means, kept_means}
 use Rattle.block.specs.declared.Copy.{Copy}

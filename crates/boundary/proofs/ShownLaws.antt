@@ -1,33 +1,29 @@
 -- A block that is written for a host reads as what was answered inside; and a list's two words.
-use mathlib.Core.Bool.{true}
 use mathlib.Core.List.{List}
 use mathlib.Core.Option.{Option, none, some}
 use mathlib.Core.Path.{◌≡◌, refl, sym, ap, ◌∙◌, subst}
 use Prim.Native.Nat.{ℕ, ◌+◌, ◌≤◌}
 use native.Mathlib.Omega.{arith}
-use lib.Dec.{eqb}
 use lib.ListN.{length, set}
-use borrow.Author.Tests.{eq-eqb, ne_eqb}
-use Rattle.amount.specs.Choose.{◌if◌else◌}
-use Rattle.block.specs.Answers.{shown_number, shown_reply, listed_number, refusal_number}
-use Rattle.block.specs.Records.{block_means, header_means, copy_means}
+use Rattle.block.specs.Answers.{shown_number, shown_reply, refusal_number}
+use Rattle.block.specs.Records.{header_means}
 use Rattle.block.specs.Telling.{HeaderTold}
 use Rattle.block.specs.declared.Block.{Block}
 use Rattle.block.specs.declared.Refusal.{Refusal}
 use Rattle.block.specs.declared.Shown.{Shown}
 use Rattle.block.specs.declared.Shown.TheVariants.{Block as ShownBlock, None as ShownNone, Refused as ShownRefused}
 use Rattle.block.specs.declared.Listed.{Listed}
-use Rattle.block.specs.declared.Listed.TheVariants.{Count as ListedAt, None as ListNone, Refused as ListRefused}
+use Rattle.block.specs.declared.Listed.TheVariants.{Count as ListedAt, None as ListNone}
 use Rattle.holdings.specs.Asked.{Asked}
 use Rattle.memory.specs.Words.{word, seg, Stored}
-use Rattle.memory.proofs.WordLaws.{stored_same, stored_other, stored_long, seg_same}
-use Rattle.model.specs.Questions.{HoldingsQuestion, effective_q, Reply, shown}
+use Rattle.memory.proofs.WordLaws.{stored_same, seg_same}
+use Rattle.model.specs.Questions.{effective_q, shown}
 use Rattle.model.specs.Record as model
 use Rattle.rows.specs.Rows.{header_at, copy_at}
 use Rattle.rows.specs.Written.{Headed, Copied}
 use Rattle.state.proofs.ViewLaws.{header_same}
 use Rattle.state.specs.Sound.{Sound}
-use Rattle.boundary.specs.Told.{with_copy, block_in, BlockTold, ToldIn, BlockWritten, ShownIn, ShownTold, Shows, listed_in, ListTold}
+use Rattle.boundary.specs.Told.{block_in, ToldIn, BlockWritten, ShownIn, ShownTold, Shows, ListTold}
 use Rattle.boundary.proofs.ToldLaws.{refused_not_0}
 
 -- ---- blocks ----

@@ -18,7 +18,7 @@ use Rattle.holdings.specs.Asked.{Asked}
 use Rattle.memory.specs.Words.{word, Stored}
 use Rattle.memory.proofs.WordLaws.{stored_same, stored_other, stored_long}
 use Rattle.model.specs.Numbers.{ask_holdings}
-use Rattle.model.specs.Questions.{HoldingsQuestion, effective_count_q, generation_q, version_q, Reply, counted, holdings_reply}
+use Rattle.model.specs.Questions.{HoldingsQuestion, effective_count_q, generation_q, version_q}
 use Rattle.state.specs.View.{view}
 use Rattle.state.specs.Sound.{Sound}
 use Rattle.boundary.specs.Told.{AmountTold, count_or, CountTold, Counts}

@@ -10,8 +10,7 @@ use Rattle.amount.specs.declared.Amount.{Amount}
 use Rattle.block.specs.Answers.{refusal_number}
 use Rattle.block.specs.declared.Block.{Block}
 use Rattle.block.specs.declared.Refusal.{Refusal}
-use Rattle.block.specs.declared.Shown.{Shown}
-use Rattle.block.specs.declared.Shown.TheVariants.{Block as ShownBlock, None as ShownNone, Refused as ShownRefused}
+use Rattle.block.specs.declared.Shown.TheVariants.{Block as ShownBlock, None as ShownNone}
 use Rattle.block.specs.declared.Worth.{Worth}
 use Rattle.block.specs.declared.Worth.TheVariants.{Linked, None as WorthNone, Refused as WorthRefused}
 use Rattle.block.specs.declared.Tip.{Tip}

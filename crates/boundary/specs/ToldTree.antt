@@ -6,7 +6,7 @@ use Rattle.amount.specs.Choose.{◌if◌else◌}
 use Rattle.amount.specs.Value as amount
 use Rattle.amount.specs.Value.{from_words}
 use Rattle.asking.specs.AskedTree.{AskedTree, Leaves}
-use Rattle.block.specs.Answers.{worth_number, tip_number, listed_number}
+use Rattle.block.specs.Answers.{worth_number, listed_number}
 use Rattle.block.specs.declared.Listed.{Listed}
 use Rattle.block.specs.declared.Shown.{Shown}
 use Rattle.block.specs.declared.Shown.TheVariants.{Block as ShownBlock, None as ShownNone, Refused as ShownRefused}

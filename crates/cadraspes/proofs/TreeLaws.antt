@@ -17,7 +17,7 @@ use Rattle.block.specs.declared.Tip.TheVariants.{Best, None as TipNone, Refused 
 use Rattle.model.specs.Numbers.{sync}
 use Rattle.model.specs.Questions.{TreeQuestion, shown, tip}
 use Rattle.model.specs.Record as model
-use Rattle.model.specs.Standing.{Value, unlinked, linked}
+use Rattle.model.specs.Standing.{unlinked, linked}
 use Rattle.tree.specs.Calls.{Keeps}
 use Rattle.boundary.specs.Told.{count_or, CountTold, ShownIn, ShownTold}
 use Rattle.boundary.specs.ToldTree.{TreeCounts, TreeShows, WorthIn, WorthTold, TreeWorths, tip_shown, tip_worth, TipTold, TreeTips}

@@ -1,5 +1,7 @@
 // Comparing two chains (document 01, "Comparing two chains"): which of them to follow and why, and whether a tip covers its nomination
 // epoch. Nothing here is refused and nothing is kept: each answer follows from the arguments alone.
+#![tactic(auto)]
+
 ghost use Rattle.std.specs.Prelude.{◌+◌, ◌*◌, ◌≡◌};
 ghost use Rattle.amount.specs.Value.{value};
 ghost use Rattle.block.specs.Answers.{choice_means, side_means};

@@ -1,5 +1,7 @@
 // The lent memory made empty: start and reload (document 01, "Holding blocks"), and what both do, to wipe it. Nothing is supposed of the words
 // that are there but the room that the head names.
+#![tactic(auto)]
+
 ghost use Rattle.std.specs.Prelude.{◌+◌, ◌*◌, ◌≤◌, ◌<◌, length};
 ghost use Rattle.block.specs.Answers.{done_number};
 ghost use Rattle.memory.specs.Layout.{Laid, need};

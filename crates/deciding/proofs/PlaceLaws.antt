@@ -1,12 +1,12 @@
 -- What is asked of one place: whether its block covers, its value; and the canonical count beside the local walk.
-use mathlib.Core.Path.{◌≡◌, refl, sym, ap, ◌∙◌}
-use mathlib.Core.Bool.{Bool, true, false, not}
+use mathlib.Core.Path.{◌≡◌, sym, ap, ◌∙◌}
+use mathlib.Core.Bool.{Bool, true, not}
 use mathlib.Core.List.{List}
 use Prim.Native.Nat.{ℕ, suc, ◌+◌, ◌-◌, ◌<◌}
 use native.Mathlib.Omega.{arith}
 use lib.Dec.{eqb}
 use borrow.Author.Tests.{lt-ltb, eqb-true, eqb-false, eq-eqb, ne_eqb}
-use Rattle.memory.specs.Words.{word, seg}
+use Rattle.memory.specs.Words.{word}
 use Rattle.memory.specs.Layout.{row}
 use Rattle.block.specs.Words.{header_of}
 use Rattle.rows.specs.Rows.{header_at, value_of}

@@ -1,5 +1,7 @@
 // What both plans ask of the tree (document 01, "The two plans"): the two tips, whether canonical blocks are as many as the local walk has places,
 // and of a block or a comparison what they decide by.
+#![tactic(auto)]
+
 ghost use Rattle.std.specs.Prelude.{not, true, ◌≡◌, suc, ◌<◌, eqb};
 ghost use Rattle.asking.specs.Whole.{WholeAt};
 ghost use Rattle.asking.specs.Within.{Top};

@@ -3,6 +3,3 @@ pub mod FinishLaws
 pub mod TakeLaws
 pub mod OrderLaws
 pub mod HandLaws
-pub mod Again
-pub mod Lending
-pub mod HandCall

@@ -1,6 +1,6 @@
 -- Document 01, "The two plans", Adopt: what is decided of one extension, and what stands in the codes before and after: extensions refused so far are orphaned as stale
 -- or left; one that is accepted ends the search.
-use Rattle.std.specs.Prelude.{Bool, true, false, ◌||◌, List, ◌∷◌, ◌++◌, ◌≡◌, ℕ, suc, ◌<◌, eqb, ℤ}
+use Rattle.std.specs.Prelude.{true, false, ◌||◌, List, ◌++◌, ◌≡◌, ℕ, suc, ◌<◌, eqb, ℤ}
 use Rattle.std.proofs.Math.Option.{Option, some}
 use Rattle.model.specs.Record.{Reason}
 use Rattle.model.specs.Holding.{Holdings, is_live, is_canonical}
@@ -9,7 +9,7 @@ use Rattle.model.specs.Walks.{Asked, index, covers_at}
 use Rattle.model.specs.Writes.{Write}
 use Rattle.model.specs.Adopt as model
 use Rattle.block.specs.Records.{reason_means}
-use Rattle.state.specs.View.{view_at, values_of, cells_of}
+use Rattle.state.specs.View.{values_of, cells_of}
 use Rattle.pending.specs.Pending.{PendOnly}
 use Rattle.walks.specs.Asking.{Asks}
 use Rattle.writing.specs.Coded.{Coded}

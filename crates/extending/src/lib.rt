@@ -1,4 +1,6 @@
 // Extensions (document 01, "The two plans", Adopt): what is decided of one, over the lent memory and in the model's terms.
+#![tactic(auto)]
+
 ghost use Rattle.std.specs.Prelude.{◌&&◌, true, ◌≡◌, ◌≤◌, ◌<◌, eqb};
 ghost use Rattle.amount.specs.Choose.{◌if◌else◌};
 ghost use Rattle.block.specs.Answers.{choice_means};
@@ -22,7 +24,7 @@ use walks::Floor;
 const MAX: u64 = 0xffff_ffff_ffff_ffff;
 
 // What is decided of an extension with a safe front: refused, or accepted for the comparison's reason.
-#[derive(Drop)]
+#[derive(Clone, Copy)]
 pub enum Judged {
     Refused,
     Accepted(Reason),

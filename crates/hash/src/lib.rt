@@ -1,11 +1,13 @@
 // Hashes (document 01, "Taken from the repository" and "Forms that change"): 32 bytes outside, four words inside, the first the
 // most significant. A hash is one number, `hash_number`, and its order is the order of its bytes and of its text.
+#![tactic(auto)]
+
 ghost use Rattle.std.specs.Prelude.{◌+◌, ◌≤◌, eqb, ltb, drop, length, take, [], ◌∷◌, ◌≡◌};
 ghost use Rattle.hash.specs.Digits.{bytes_number, bytes_of, digits};
 ghost use Rattle.hash.specs.Hashes.{hash_number, join};
 ghost use Rattle.std.proofs.lemmas.List.Edits.{sets};
 
-#[derive(Drop)]
+#[derive(Clone, Copy)]
 pub struct Hash {
     pub first: u64,
     pub second: u64,

@@ -4,10 +4,8 @@ use mathlib.Core.List.{List}
 use mathlib.Core.Option.{Option, none}
 use Prim.Native.Nat.{ℕ, ◌≤◌, ◌<◌}
 use native.Mathlib.Omega.{arith}
-use lib.Dec.{ltb}
 use Rattle.amount.specs.Choose.{◌if◌else◌}
 use Rattle.model.specs.Questions.{HoldingsQuestion, effective_q, effective_count_q, generation_q, version_q, Reply, counted, shown, block_at, effective_at, holdings_reply, holdings_lent, too_short}
-use Rattle.model.specs.Numbers.{ask_holdings}
 use Rattle.memory.specs.Words.{word}
 use Rattle.memory.specs.Layout.{Laid}
 use Rattle.model.specs.Holding.{place_of}

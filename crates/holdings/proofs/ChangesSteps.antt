@@ -2,10 +2,9 @@
 use mathlib.Core.Path.{◌≡◌, refl, sym, ap, ◌∙◌, subst}
 use mathlib.Core.List.{List}
 use mathlib.Core.Option.{Option, none, some}
-use Prim.Native.Nat.{ℕ, zero, suc, ◌+◌, ◌*◌, ◌/◌, ◌≤◌, ◌<◌}
+use Prim.Native.Nat.{ℕ, ◌/◌, ◌≤◌, ◌<◌}
 use native.Mathlib.Omega.{arith}
 use lib.ListN.{length}
-use lib.Dec.{ltb}
 use borrow.Author.Tests.{lt-ltb, le-ltb}
 use Rattle.amount.specs.Choose.{◌if◌else◌}
 use Rattle.model.specs.Holding.{changes_since}
@@ -14,7 +13,7 @@ use Rattle.model.specs.Numbers.{ask_holdings}
 use Rattle.block.specs.Answers.{listed_number}
 use Rattle.block.specs.declared.Listed.{Listed}
 use Rattle.block.specs.declared.Listed.TheVariants.{Count, None, Refused}
-use Rattle.block.specs.declared.Refusal.TheVariants.{List as Short, Room}
+use Rattle.block.specs.declared.Refusal.TheVariants.{List as Short}
 use Rattle.journal.specs.declared.Had.TheVariants.{None as HadNone, Count as HadCount}
 use Rattle.journal.specs.Changes.{changes_of, had_of, Writes}
 use Rattle.journal.proofs.ChangesLaws.{counted_list, nothing_had}
@@ -22,7 +21,7 @@ use Rattle.memory.specs.Words.{word}
 use Rattle.memory.specs.Layout.{Laid}
 use Rattle.state.specs.View.{view_at}
 use Rattle.state.specs.Sound.{SoundAt}
-use Rattle.state.specs.Handing.{places_in, listed_of, handed, Hands}
+use Rattle.state.specs.Handing.{places_in, listed_of, handed}
 use Rattle.holdings.specs.Asked.{ChangesAt, Changes}
 
 -- ---- in answer ----

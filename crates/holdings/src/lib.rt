@@ -1,4 +1,6 @@
 // The calls on the holdings (document 01, "Holding blocks", "Numbers given back"): each reads the room from the head, and works inside of it.
+#![tactic(auto)]
+
 ghost use Rattle.std.specs.Prelude.{◌≡◌, ℕ, ◌<◌};
 ghost use Rattle.block.specs.Answers.{counted_number, counted_reply, done_number, shown_number, shown_reply};
 ghost use Rattle.block.specs.Records.{hash_means};

@@ -1,6 +1,8 @@
 // Chains of slots by a key of four words, in the lent memory: places by hash, places by previous hash (many share a key), the journal's
 // slots by the hash of the last touch. Doubly linked, so that a slot leaves its chain with no search for it. Every number read is tested
 // before it is an address and every walk counts its steps, so that no function needs the memory to hold an index in order to be safe.
+#![tactic(auto)]
+
 ghost use Rattle.std.specs.Prelude.{◌+◌, ◌*◌, ◌%◌, ◌<◌, ◌≤◌, length, ◌≡◌};
 ghost use Rattle.index.specs.Keys.{Bucketed, Tests, bucket_of, key_at};
 ghost use Rattle.index.specs.Seeks.{Seeks};

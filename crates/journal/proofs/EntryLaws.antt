@@ -1,21 +1,20 @@
 -- Laws of entries: a hash is four words, two last touches of one hash are the same, and what must stay for the journal to stay.
 use mathlib.Core.Path.{◌≡◌, refl, sym, ap, ◌∙◌, subst}
-use mathlib.Core.Bool.{true, ◌&&◌, not}
+use mathlib.Core.Bool.{true, not}
 use mathlib.Core.Logic.{◌⊎◌, inl, inr}
 use mathlib.Core.List.{List}
 use Prim.Native.Nat.{ℕ, ◌+◌, ◌*◌, ◌≤◌, ◌<◌}
 use native.Mathlib.Omega.{arith}
 use lib.Dec.{eqb}
-use borrow.Author.Tests.{eqb-true, eq-eqb}
 use Rattle.model.specs.Lists.{elem}
-use Rattle.model.proofs.Tools.{no_both, and_left, and_right}
+use Rattle.model.proofs.Tools.{no_both}
 use Rattle.hash.specs.Hashes.{limb, join}
-use Rattle.hash.proofs.HashLaws.{Words, same_join}
+use Rattle.hash.proofs.HashLaws.{Words}
 use Rattle.block.specs.Words.{quad}
 use Rattle.memory.specs.Words.{word, seg}
 use Rattle.memory.specs.Layout.{ring, by_touch}
 use Rattle.memory.proofs.HashWords.{seg_hash}
-use Rattle.memory.proofs.WordLaws.{seg_same, seg-quad}
+use Rattle.memory.proofs.WordLaws.{seg_same}
 use Rattle.index.specs.Keys.{key_at}
 use Rattle.index.proofs.ListFacts.{below_or}
 use Rattle.index.proofs.IndexLaws.{keyed_frame}

@@ -1,5 +1,7 @@
 // The journal (document 01, "Holding blocks"): a ring of the hashes touched in the lent memory, with the index of last touches. Every
 // number that is read is tested before it is a slot, so that the functions stay in bounds on any memory that is laid out.
+#![tactic(auto)]
+
 ghost use Rattle.std.specs.Prelude.{◌+◌, ◌*◌, ◌-◌, ◌%◌, ◌<◌, ◌≤◌, ltb, length, true, ◌≡◌};
 ghost use Rattle.amount.specs.Choose.{◌if◌else◌};
 ghost use Rattle.block.specs.Words.{quad};
@@ -15,7 +17,7 @@ ghost use Rattle.memory.specs.Words.{word};
 ghost use Rattle.model.specs.Numbers.{journal_limit, max_word};
 
 // Changes since a generation and a version: none to be had, or how many hashes.
-#[derive(Drop)]
+#[derive(Clone, Copy)]
 pub enum Had {
     None,
     Count(usize),

@@ -1,26 +1,23 @@
 -- The steps of a place's linked value, one by one: whose child it is, the numbers of children, the roster of leaves.
-use mathlib.Core.Path.{◌≡◌, refl, sym, ap, ◌∙◌}
-use mathlib.Core.Bool.{Bool, true, false, not, ◌&&◌}
+use mathlib.Core.Path.{◌≡◌, refl, sym, ◌∙◌}
+use mathlib.Core.Bool.{Bool, true, false, ◌&&◌}
 use mathlib.Core.List.{List}
-use Prim.Native.Nat.{ℕ, ◌+◌, ◌*◌, ◌-◌, ◌≤◌, ◌<◌}
+use Prim.Native.Nat.{ℕ, ◌+◌, ◌-◌, ◌≤◌, ◌<◌}
 use native.Mathlib.Omega.{arith}
-use lib.Dec.{eqb, ltb}
+use lib.Dec.{ltb}
 use lib.ListN.{length}
-use borrow.Author.Tests.{eqb-true, eqb-false, eq-eqb, ne_eqb, ltb-true, lt-ltb, le-ltb}
-use Rattle.amount.specs.Choose.{◌if◌else◌}
-use Rattle.model.specs.Numbers.{max_word}
+use borrow.Author.Tests.{eq-eqb, ne_eqb, ltb-true, lt-ltb, le-ltb}
 use Rattle.model.proofs.Tools.{by_bool}
 use Rattle.memory.specs.Words.{word, Stored}
-use Rattle.memory.specs.Layout.{row, leaves_at, vacant_at, Laid}
+use Rattle.memory.specs.Layout.{row, leaves_at, Laid}
 use Rattle.memory.proofs.WordLaws.{stored_same, stored_other, stored_long}
-use Rattle.contest.specs.Keys.{enters}
 use Rattle.contest.proofs.KeyLaws.{enters_yes, enters_no}
 use Rattle.roster.specs.Roster.{member_at, size_at}
 use Rattle.roster.specs.Writes.{Added, Dropped}
 use Rattle.values.specs.Values.{Written}
 use Rattle.values.specs.declared.Value.{Value}
 use Rattle.state.proofs.SoundLaws.{laid_same}
-use Rattle.kin.specs.Kin.{linked_at, up_at, kids_at, Leaves, is_listed, leaf_at, kin_of, Lowered, Raised, Judged}
+use Rattle.kin.specs.Kin.{linked_at, up_at, kids_at, leaf_at, kin_of, Lowered, Raised, Judged}
 
 -- ---- whose child ----
 

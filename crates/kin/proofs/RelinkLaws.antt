@@ -1,26 +1,24 @@
 -- A place's new linked value, step by step: the child's number of the old parent falls, value and parent are written, that of the new one rises,
 -- the three places are judged, and the contest is played again.
 use mathlib.Core.Path.{◌≡◌, refl, sym, ap, ◌∙◌}
-use mathlib.Core.Bool.{Bool, true, false, not, ◌&&◌, cond}
+use mathlib.Core.Bool.{Bool, true, false, ◌&&◌, cond}
 use mathlib.Core.List.{List}
-use Prim.Native.Nat.{ℕ, zero, suc, ◌+◌, ◌*◌, ◌-◌, ◌≤◌, ◌<◌}
+use Prim.Native.Nat.{ℕ, zero, suc, ◌+◌, ◌*◌, ◌≤◌, ◌<◌}
 use native.Mathlib.Omega.{arith}
 use lib.Dec.{eqb, ltb}
 use lib.ListN.{length}
-use borrow.Author.Tests.{eqb-true, eqb-false, eq-eqb, ne_eqb, ltb-true, ltb-false, lt-ltb, le-ltb}
-use Rattle.amount.specs.Choose.{◌if◌else◌}
+use borrow.Author.Tests.{eqb-true, eqb-false, eq-eqb, ne_eqb, ltb-false}
 use Rattle.model.specs.Places.{sum, count, put_at}
 use Rattle.model.specs.Numbers.{max_word}
 use Rattle.model.proofs.Tools.{by_bool}
 use Rattle.model.proofs.Sums.{count_put, count_below}
 use Rattle.memory.specs.Words.{word, seg, Only, Stored}
-use Rattle.memory.specs.Layout.{row, by_hash, nodes, leaves_at, vacant_at, Laid}
+use Rattle.memory.specs.Layout.{row, nodes, leaves_at, vacant_at, Laid}
 use Rattle.memory.proofs.WordLaws.{stored_same, stored_other, stored_long, seg_same}
 use Rattle.contest.specs.Tree.{WF}
-use Rattle.contest.specs.Keys.{enters, mark}
 use Rattle.contest.specs.Contests as contest
 use Rattle.contest.specs.Contests.{Updated}
-use Rattle.contest.proofs.KeyLaws.{Keys, row_keys, enters_kept}
+use Rattle.contest.proofs.KeyLaws.{enters_kept}
 use Rattle.contest.proofs.Uses.{SameBut, again}
 use Rattle.roster.proofs.RosterLaws.{roster_same, roster_frame}
 use Rattle.state.proofs.RowSteps.{count_at}

@@ -1,6 +1,6 @@
 -- Document 01, "Standing in the tree", leaf: linked, and no linked block has it as parent. What a memory keeps for it: of each place the place
 -- of its linked parent (word 67) and the number of its linked children (word 64), and the roster of leaves.
-use Rattle.std.specs.Prelude.{Bool, true, false, ◌&&◌, List, ◌≡◌, ℕ, ◌+◌, ◌*◌, ◌≤◌, ◌<◌, eqb, ltb, length}
+use Rattle.std.specs.Prelude.{Bool, ◌&&◌, List, ◌≡◌, ℕ, ◌+◌, ◌≤◌, ◌<◌, eqb, ltb, length}
 use Rattle.amount.specs.Choose.{◌if◌else◌}
 use Rattle.model.specs.Places.{count}
 use Rattle.model.specs.Numbers.{max_word}

@@ -1,5 +1,7 @@
 // Linked values and what follows from them at other places (document 01, "Standing in the tree"): how many linked children a place has, which
 // places are leaves, and the contest for the best.
+#![tactic(auto)]
+
 ghost use Rattle.std.specs.Prelude.{◌+◌, ◌*◌, ◌<◌, ◌≤◌, ◌≡◌};
 ghost use Rattle.kin.specs.Kin.{Judged, Lowered, Raised, kin_of};
 ghost use Rattle.kin.specs.Relinked.{Relinked};

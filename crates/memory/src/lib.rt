@@ -1,5 +1,7 @@
 // The lent memory: words four at a time, a stretch filled with one number, and the room that the head names. These are the few
 // functions that index by an address as it is given.
+#![tactic(auto)]
+
 ghost use Rattle.std.specs.Prelude.{◌≡◌, ℕ, ◌+◌, ◌≤◌, ◌<◌, length};
 ghost use Rattle.memory.specs.Words.{word, seg, Four, Filled, same_four};
 ghost use Rattle.block.specs.Words.{quad};

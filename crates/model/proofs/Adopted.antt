@@ -1,5 +1,5 @@
 -- After an adopt that accepts an extension, the canonical blocks are the walk of its safe tip and no others; after one that accepts none they are as before.
-use Prim.Native.Nat.{ℕ, suc, ◌≤◌, ◌<◌}
+use Prim.Native.Nat.{ℕ, suc, ◌<◌}
 use mathlib.Core.Path.{◌≡◌, refl, sym, ◌∙◌, ap}
 use mathlib.Core.Bool.{Bool, true, false, cond, not, ◌&&◌, ◌||◌}
 use mathlib.Core.Option.{Option, none, some}
@@ -8,12 +8,12 @@ use native.Mathlib.Omega.{arith}
 use lib.ListN.{length}
 use lib.Dec.{eqb, ltb}
 use borrow.Author.Tests.{eqb-true, eqb-false, eq-eqb, ne_eqb, ltb-true, ltb-false, le-ltb}
-use Rattle.model.specs.Lists.{elem, those, only, front, last, each, sorted}
+use Rattle.model.specs.Lists.{elem, those, front, last, each}
 use Rattle.model.specs.Record.{Reason, stale_fork, Copy}
-use Rattle.model.specs.Holding.{Cell, free, held, Holdings, effective, copy_is_canonical, is_live, is_canonical}
+use Rattle.model.specs.Holding.{Cell, free, held, copy_is_canonical, is_live, is_canonical}
 use Rattle.model.specs.Standing.{winner, canonical, outranks, best, is_leaf, canonical_count}
 use Rattle.model.specs.Comparing.{Comparison, choose_verified, is_adopted}
-use Rattle.model.specs.Walks.{Asked, index, is_canon, covers_at, walk, walk_of, onward, above}
+use Rattle.model.specs.Walks.{Asked, index, is_canon, covers_at, walk_of, above}
 use Rattle.model.specs.Writes.{Change, promote, orphan, changed, Write, after_all, copy_of, copy_after, entries, Plan, scan, apply}
 use Rattle.model.specs.Select.{on}
 use Rattle.model.specs.Adopt.{leaves_of, ancestor, extension, safe_front, ours, peers, Verdict, pass_on, refused, accepted, floor_refuses, is_stale, refusal, rival, acceptance, decided, judge_safe, judge_above, judge, then, search_leaves, adopt_from, adopt}
@@ -21,8 +21,8 @@ use Rattle.model.specs.Numbers.{State}
 use Rattle.model.specs.Plans.{records_after, adopt_c, asked, plan_reply, cell_with}
 use Rattle.model.specs.Runs.{Run}
 use lib.IntN.{ℤ}
-use Rattle.model.proofs.Tools.{by_bool, by_option, no_both, and_left, and_right, not_is_true, elem-reverse}
-use Rattle.model.proofs.ListLaws.{elem_head, elem_append, elem-front, elem_rev, elem-those, front-find}
+use Rattle.model.proofs.Tools.{by_bool, by_option, no_both, not_is_true, elem-reverse}
+use Rattle.model.proofs.ListLaws.{elem_head, elem-front, elem_rev, elem-those, front-find}
 use Rattle.model.proofs.WalkLaws.{Upheld, walk_index, walk_part, front-walk}
 use Rattle.model.proofs.LocalWalk.{above_is, spine_canonical, canonical_spine, ancestor-on, front_all}
 use Rattle.model.proofs.PlanLaws.{Says, elem-sorted}

@@ -2,19 +2,19 @@
 use Prim.Native.Nat.{ℕ}
 use mathlib.Core.Path.{◌≡◌, refl}
 use mathlib.Core.Bool.{Bool, true, false}
-use mathlib.Core.Option.{Option, none, some}
+use mathlib.Core.Option.{none, some}
 use mathlib.Core.List.{List, [], ◌∷◌}
 use lib.Dec.{eqb}
 use Rattle.amount.specs.Choose.{◌if◌else◌}
 use Rattle.amount.specs.Amounts.{Amount, readable, unreadable}
 use Rattle.model.specs.Places.{first, pick, sum}
 use Rattle.model.specs.Lists.{those, put_in, sorted, each, elem, without, distinct}
-use Rattle.model.specs.Record.{Header, Copy, Block}
+use Rattle.model.specs.Record.{Copy, Block}
 use Rattle.model.specs.Holding.{Holdings, copy_in, set_copy, set_answer, effective, is_free, has_room, is_held, is_live, is_canonical, place_of, free_place, kept, keep, dropped, drop, cell_has, answered, take_answer, touch, release, empty, changes_since, changes_in}
-use Rattle.model.specs.Standing.{winner, canonical, Value, unlinked, linked, meets, standing, names, parent, at_index, from_nothing, outranks, is_leaf}
+use Rattle.model.specs.Standing.{unlinked, linked, meets, standing, names, parent, at_index, from_nothing, outranks, is_leaf}
 use Rattle.model.specs.Relink.{work_out, same, moves, worked, follows, after, goes_before, next, settle, turns, settled, changed_in, relinked}
 use Rattle.model.specs.Questions.{lower_hash, TreeQuestion, node, parent_q, linked_q, canonical_linked_q, best_q, canonical_best_q, canonical_count_q, live_count_q, leaves_q, effective_q, Reply, shown, worth, tip, counted, listed, tree_reply, holdings_reply}
-use Rattle.model.specs.Numbers.{State, Call, load, put, remove, answer, reload, sync, begin, number, changes, ask_tree, effect, step}
+use Rattle.model.specs.Numbers.{State, Call, load, put, remove, answer, sync, begin, number, changes, ask_tree, effect, step}
 use Rattle.model.specs.Runs.{Run, start, call, new_after, new_next, new_of, InTime}
 
 -- the calls one after another

@@ -1,19 +1,19 @@
 -- What a call that writes one place leaves as it was.
-use Prim.Native.Nat.{ℕ, zero, suc, ◌+◌, ◌≤◌, ◌<◌}
-use mathlib.Core.Path.{◌≡◌, refl, sym, ◌∙◌, ap, subst, fun_ext}
-use mathlib.Core.Bool.{Bool, true, false, cond, not, ◌&&◌, ◌||◌}
+use Prim.Native.Nat.{ℕ, suc, ◌≤◌, ◌<◌}
+use mathlib.Core.Path.{◌≡◌, refl, sym, ◌∙◌, ap, fun_ext}
+use mathlib.Core.Bool.{Bool, true, false, ◌&&◌}
 use mathlib.Core.Option.{Option, none, some}
 use mathlib.Core.List.{List}
 use native.Mathlib.Omega.{arith}
-use lib.Dec.{eqb, ltb}
-use borrow.Author.Tests.{eqb-true, eqb-false, eq-eqb, ne_eqb}
+use lib.Dec.{eqb}
+use borrow.Author.Tests.{eqb-true, ne_eqb}
 use Rattle.model.specs.Places.{first, put_at}
 use Rattle.model.specs.Lists.{elem}
 use Rattle.model.specs.Record.{Header, Copy, Block}
 use Rattle.model.specs.Holding.{Answer, Store, active, forks, canon, Held, Cell, free, held, Holdings, set_copy, set_answer, new_room, is_free, has_room, kept, dropped, answered, with_cells}
 use Rattle.model.specs.Standing.{Spine, Value, unlinked, Values, standing, names, value_at}
 use Rattle.model.specs.Relink.{changed_in}
-use Rattle.model.proofs.Tools.{by_bool, by_option, no_both, no_none, and_left, first_some, first_none, first_nowhere, put_same, put_other}
+use Rattle.model.proofs.Tools.{by_bool, by_option, no_both, first_some, first_nowhere, put_same, put_other}
 use Rattle.model.proofs.Turn.{named, work_named, Consistent}
 use Rattle.model.proofs.Parent.{Distinct, one_hash}
 use Rattle.model.proofs.FromNothing.{names-free}

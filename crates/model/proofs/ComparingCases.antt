@@ -1,8 +1,7 @@
 -- Document 01 by small examples, all computed: "Comparing two chains".
 use Prim.Native.Nat.{ℕ}
 use mathlib.Core.Path.{◌≡◌, refl}
-use mathlib.Core.Bool.{Bool, true, false}
-use Rattle.amount.specs.Amounts.{readable}
+use mathlib.Core.Bool.{true, false}
 use Rattle.model.specs.Record.{same_tip, neither, peer_only, local_only, peer_work, local_work, peer_tip, local_tip, peer_hash, local_hash, Header}
 use Rattle.model.specs.Comparing.{Work, known, unknown, Side, equal, keep_local, adopt_peer, ◌because◌, by_work, choose_verified, is_adopted, covers}
 use Rattle.model.proofs.Cases.{plain, block}

@@ -1,12 +1,12 @@
 -- Laws of the comparison: when each outcome is given, the reason tells the outcome, swapped sides swap it.
-use Prim.Native.Nat.{ℕ, ◌<◌}
-use mathlib.Core.Path.{◌≡◌, refl, sym, ◌∙◌, ap}
+use Prim.Native.Nat.{ℕ}
+use mathlib.Core.Path.{◌≡◌, refl, sym}
 use mathlib.Core.Bool.{Bool, true, false}
 use native.Mathlib.Omega.{arith}
 use lib.Dec.{eqb, ltb}
 use borrow.Author.Tests.{eqb-true, eqb-false, eq-eqb, ne_eqb, ltb-true, ltb-false, lt-ltb, le-ltb}
 use Rattle.model.specs.Record.{Reason, same_tip, neither, peer_only, local_only, peer_work, local_work, peer_tip, local_tip, peer_hash, local_hash, off_spine, competing_fork, stale_fork}
-use Rattle.model.specs.Comparing.{Work, known, unknown, Side, Outcome, equal, keep_local, adopt_peer, Comparison, by_work, choose_verified}
+use Rattle.model.specs.Comparing.{Work, known, unknown, Side, Outcome, equal, keep_local, adopt_peer, by_work, choose_verified}
 use Rattle.model.proofs.Tools.{by_bool, no_both}
 
 other_way : (a b : ℕ) → ltb a b ≡ true → ltb b a ≡ false

@@ -4,11 +4,10 @@
 use Prim.Native.Nat.{ℕ}
 use mathlib.Core.Path.{◌≡◌, refl, ap, fun_ext}
 use mathlib.Core.Bool.{Bool, true, false}
-use mathlib.Core.Option.{some}
 use mathlib.Core.List.{[]}
 use Rattle.model.specs.Lists.{elem}
 use Rattle.model.specs.Holding.{Cell, free, held}
-use Rattle.model.specs.Standing.{Spine, winner, canonical, from_nothing}
+use Rattle.model.specs.Standing.{Spine, canonical, from_nothing}
 use Rattle.model.specs.Relink.{changed_in}
 use Rattle.model.specs.Questions.{TreeQuestion, tree_reply}
 use Rattle.model.specs.Numbers.{State}

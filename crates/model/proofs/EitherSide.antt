@@ -7,7 +7,7 @@ use mathlib.Core.List.{[], ◌∷◌}
 use Rattle.amount.specs.Amounts.{readable, unreadable, reading}
 use Rattle.amount.proofs.EitherSide as amounts
 use Rattle.amount.proofs.EitherSide.{bytes}
-use Rattle.model.specs.Record.{Header, Copy, Block}
+use Rattle.model.specs.Record.{Header, Block}
 use Rattle.model.specs.Standing.{linked}
 use Rattle.model.specs.Comparing.{covers}
 use Rattle.model.specs.Adopt.{is_stale}

@@ -1,26 +1,25 @@
 -- The sequenced part stays (request 6): if a floor is given and the canonical best has proofs ok, then after a plan's entries are put on the records, every block that was canonical at or below the floor is still canonical.
 use Prim.Native.Nat.{ℕ, ◌≤◌, ◌<◌}
-use mathlib.Core.Path.{◌≡◌, refl, sym, ◌∙◌, ap}
+use mathlib.Core.Path.{◌≡◌, refl}
 use mathlib.Core.Bool.{Bool, true, false, cond, not, ◌&&◌, ◌||◌}
 use mathlib.Core.Option.{Option, none, some}
 use mathlib.Core.List.{List, [], ◌∷◌}
 use native.Mathlib.Omega.{arith}
-use lib.IntN.{ℤ}
-use lib.Dec.{eqb, ltb, leb}
-use borrow.Author.Tests.{eqb-true, eqb-false, eq-eqb, ltb-true, lt-ltb, leb-true}
+use lib.Dec.{eqb, ltb}
+use borrow.Author.Tests.{eqb-true, ltb-true, lt-ltb, leb-true}
 use Rattle.model.specs.Places.{is_some}
-use Rattle.model.specs.Lists.{elem, those, only, any, front, each, sorted}
-use Rattle.model.specs.Record.{Reason, Copy}
-use Rattle.model.specs.Holding.{active, Held, Cell, free, held, Holdings, set_copy, effective, copy_is_canonical, is_free, is_live, is_canonical, index_of, hash_of}
-use Rattle.model.specs.Standing.{Spine, winner, canonical, Value, from_nothing, best, proofs_ok}
+use Rattle.model.specs.Lists.{elem, any, front, each}
+use Rattle.model.specs.Record.{Copy}
+use Rattle.model.specs.Holding.{active, Held, Cell, free, held, set_copy, effective, copy_is_canonical, is_free, is_canonical, index_of, hash_of}
+use Rattle.model.specs.Standing.{canonical, best, proofs_ok}
 use Rattle.model.specs.Walks.{Asked, index, is_canon, covers_at, walk_of, above, under, below}
-use Rattle.model.specs.Writes.{Change, promote, demote, orphan, changed, Write, after_all, touched, or_blank, copy_of, copy_after, Entry, entry_at, earlier, places_of, entries, Plan, scan, apply}
-use Rattle.model.specs.Select.{on, off, aside, held_back, select}
-use Rattle.model.specs.Adopt.{extension, floor_refuses, adopt}
+use Rattle.model.specs.Writes.{Change, promote, demote, orphan, changed, Write, after_all, or_blank, copy_of, copy_after, Entry, entry_at, places_of, entries, Plan, scan, apply}
+use Rattle.model.specs.Select.{on, aside, held_back, select}
+use Rattle.model.specs.Adopt.{floor_refuses, adopt}
 use Rattle.model.specs.Numbers.{State}
-use Rattle.model.specs.Plans.{records_after, PlanCall, select_c, adopt_c, asked, plan_of, PlanReply, hand_back, plan_reply, entry_put, cell_with}
+use Rattle.model.specs.Plans.{records_after, PlanCall, select_c, adopt_c, asked, hand_back, plan_reply, cell_with}
 use Rattle.model.specs.Runs.{Run}
-use Rattle.model.proofs.Tools.{by_bool, by_option, no_both, no_none, and_left, and_right, or_left, or_right, not_is_true}
+use Rattle.model.proofs.Tools.{by_bool, no_both, or_left, or_right, not_is_true}
 use Rattle.model.proofs.Parent.{Distinct}
 use Rattle.model.proofs.NoSlack.{one_place}
 use Rattle.model.proofs.Demand3.{distinct}
@@ -28,7 +27,7 @@ use Rattle.model.proofs.ListLaws.{elem_head, elem-only, elem-front, elem_rev, an
 use Rattle.model.proofs.WalkLaws.{walk_index}
 use Rattle.model.proofs.Upheld.{upheld}
 use Rattle.model.proofs.PlanLaws.{Every, Says, in_walk, select_every, adopt_every}
-use Rattle.model.proofs.Entries.{OfLive, Orderly, orderly, not_free, select_live, adopt_live}
+use Rattle.model.proofs.Entries.{OfLive, orderly, not_free, select_live, adopt_live}
 
 -- ---- no change but a promotion at a canonical block at or below the floor ----
 

@@ -1,15 +1,14 @@
 -- Places that each have at most one parent, whose index is one less. A change at one place that makes only its children due: how often that can happen.
-use Prim.Native.Nat.{ℕ, zero, suc, ◌+◌, ◌*◌, ◌-◌, ◌≤◌, ◌<◌}
+use Prim.Native.Nat.{ℕ, zero, suc, ◌+◌, ◌-◌, ◌≤◌, ◌<◌}
 use mathlib.Core.Path.{◌≡◌, refl, sym, ◌∙◌, ap}
-use mathlib.Core.Bool.{Bool, true, false, cond, not, ◌&&◌, ◌||◌}
+use mathlib.Core.Bool.{Bool, true, false, cond, ◌&&◌}
 use mathlib.Core.Option.{Option, none, some}
 use native.Mathlib.Omega.{arith}
-use native.Mathlib.Nat.{mul-le-mul_left}
-use lib.Dec.{eqb, ltb}
-use borrow.Author.Tests.{eqb-true, eqb-false, eq-eqb, ne_eqb}
+use lib.Dec.{eqb}
+use borrow.Author.Tests.{eqb-true, eq-eqb}
 use Rattle.model.specs.Places.{count, sum}
 use Rattle.model.proofs.Sums.{sum_moves, sum_below, sum_none, count_below, count_one}
-use Rattle.model.proofs.Tools.{by_bool, by_option, no_both, no_none, and_left, and_right}
+use Rattle.model.proofs.Tools.{by_bool, no_both, no_none, and_left, and_right}
 
 -- ---- the places above ----
 

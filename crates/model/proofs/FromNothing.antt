@@ -1,16 +1,14 @@
 -- Consistent values are those worked out from nothing, and freed room leaves them consistent.
-use Prim.Native.Nat.{ℕ, zero, suc, ◌+◌, ◌≤◌, ◌<◌}
-use mathlib.Core.Path.{◌≡◌, refl, sym, ◌∙◌, ap, subst, fun_ext}
-use mathlib.Core.Bool.{Bool, true, false, cond, not, ◌&&◌, ◌||◌}
+use Prim.Native.Nat.{ℕ, zero, suc}
+use mathlib.Core.Path.{◌≡◌, refl, sym, ◌∙◌, ap, fun_ext}
+use mathlib.Core.Bool.{Bool, true, false}
 use mathlib.Core.Option.{Option, none, some}
 use native.Mathlib.Omega.{arith}
-use lib.Dec.{eqb, ltb}
-use borrow.Author.Tests.{eqb-true, eqb-false, eq-eqb, ne_eqb}
 use Rattle.model.specs.Places.{first, is_some}
 use Rattle.model.specs.Record.{Copy}
-use Rattle.model.specs.Holding.{Held, Cell, free, held, Holdings, effective, copy_is_live, is_free, has_room, is_held, is_live, released, release, index_of}
+use Rattle.model.specs.Holding.{Cell, free, held, Holdings, effective, copy_is_live, is_held, is_live, released, release, index_of}
 use Rattle.model.specs.Standing.{Spine, Value, unlinked, Values, standing, names, parent, value_at, at_index, from_nothing}
-use Rattle.model.proofs.Tools.{by_bool, by_option, no_both, no_none, and_left, and_right, first_some, first_none, first_only, first_nowhere}
+use Rattle.model.proofs.Tools.{by_bool, by_option, no_both, first_some, first_none, first_only, first_nowhere}
 use Rattle.model.proofs.Turn.{named, work_named, Consistent, names_index, named_some, parent-some, standing_zero, named_dead}
 use Rattle.model.proofs.Parent.{Distinct, named_one, parent_value}
 

@@ -1,11 +1,9 @@
 -- Document 01 by small examples, all computed: the header, "Holding blocks".
-use Prim.Native.Nat.{ℕ}
 use mathlib.Core.Path.{◌≡◌, refl}
-use mathlib.Core.Bool.{Bool, true, false}
-use mathlib.Core.Option.{Option, none, some}
-use mathlib.Core.List.{List, [], ◌∷◌}
+use mathlib.Core.Bool.{true, false}
+use mathlib.Core.Option.{none, some}
+use mathlib.Core.List.{[], ◌∷◌}
 use Rattle.amount.specs.Amounts.{readable, unreadable}
-use Rattle.model.specs.Record.{Block}
 use Rattle.model.specs.Holding.{place_of, changes_since}
 use Rattle.model.specs.Standing.{unlinked, linked}
 use Rattle.model.specs.Questions.{linked_q, effective_q, effective_count_q, generation_q, version_q, HoldingsQuestion, Reply, shown, worth, counted, holdings_reply}

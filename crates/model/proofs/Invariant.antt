@@ -1,25 +1,25 @@
 -- What holds of every state that calls lead to.
-use Prim.Native.Nat.{ℕ, zero, suc, ◌+◌, ◌≤◌, ◌<◌}
-use mathlib.Core.Path.{◌≡◌, refl, sym, ◌∙◌, ap, subst, fun_ext}
-use mathlib.Core.Bool.{Bool, true, false, cond, not, ◌&&◌, ◌||◌}
+use Prim.Native.Nat.{ℕ, ◌≤◌, ◌<◌}
+use mathlib.Core.Path.{◌≡◌, refl, sym, ◌∙◌, ap}
+use mathlib.Core.Bool.{Bool, true, false, cond, not, ◌||◌}
 use mathlib.Core.Option.{Option, none, some, some-injective}
-use mathlib.Core.List.{List, [], ◌∷◌}
+use mathlib.Core.List.{List, []}
 use native.Mathlib.Omega.{arith}
 use lib.Dec.{eqb, ltb}
-use borrow.Author.Tests.{eqb-true, eqb-false, eq-eqb, ne_eqb, ltb-true, ltb-false}
-use Rattle.model.specs.Places.{or_else, is_some, first, put_at}
+use borrow.Author.Tests.{eqb-true, eqb-false, eq-eqb, ltb-true, ltb-false}
+use Rattle.model.specs.Places.{or_else, put_at}
 use Rattle.model.specs.Lists.{elem}
 use Rattle.model.specs.Record.{Header, Block}
-use Rattle.model.specs.Holding.{Answer, eligible, for_now, ineligible, Store, Held, Cell, free, held, Holdings, new_room, set_answer, effective, is_free, has_room, is_held, is_live, is_canonical, released, change_at, kept, keep, dropped, drop, has_copy, answered, take_answer, touch, release, empty, with_cells, place_of, free_place, store_of, changes_since, changes_in, answer_of}
-use Rattle.model.specs.Standing.{Spine, winner, canonical, Value, unlinked, Values, not_ineligible, may, standing, value_at, from_nothing}
-use Rattle.model.specs.Relink.{changed_in, settled, relinked}
-use Rattle.model.specs.Numbers.{Point, State, Call, load, put, remove, answer, reload, sync, begin, clashes, cell_final, is_final, number, stale, changes_from, changes, effect, step}
-use Rattle.model.specs.Runs.{New, gives_room, new_after, new_next, cell_ineligible, is_ineligible, Timely, Run, start, call, new_of, InTime}
-use Rattle.model.proofs.Tools.{by_bool, by_option, no_both, no_none, and_left, and_right, or_left, or_right, first_some, first_none, put_same, put_other}
+use Rattle.model.specs.Holding.{Answer, eligible, for_now, ineligible, Store, Cell, free, held, Holdings, new_room, set_answer, effective, is_free, has_room, is_held, is_live, is_canonical, released, change_at, kept, keep, dropped, drop, has_copy, answered, take_answer, touch, release, empty, with_cells, place_of, free_place, store_of, changes_since, changes_in, answer_of}
+use Rattle.model.specs.Standing.{Spine, winner, canonical, Value, unlinked, Values, not_ineligible, standing, value_at}
+use Rattle.model.specs.Relink.{changed_in, relinked}
+use Rattle.model.specs.Numbers.{Point, State, Call, load, put, remove, answer, reload, sync, begin, clashes, cell_final, number, stale, changes_from, changes, effect, step}
+use Rattle.model.specs.Runs.{New, gives_room, new_after, new_next, cell_ineligible, Timely, Run, start, call, new_of, InTime}
+use Rattle.model.proofs.Tools.{by_bool, by_option, no_both, no_none, or_left, or_right, first_some, first_none, put_other}
 use Rattle.model.proofs.Turn.{named, work_named, Consistent, named_dead}
 use Rattle.model.proofs.Parent.{Distinct}
-use Rattle.model.proofs.Settled.{Kept, settled_consistent}
-use Rattle.model.proofs.FromNothing.{from_nothing_lem, release_consistent}
+use Rattle.model.proofs.Settled.{settled_consistent}
+use Rattle.model.proofs.FromNothing.{release_consistent}
 use Rattle.model.proofs.Journal.{changes_here, changes_other, changes_touch}
 use Rattle.model.proofs.Cells.{head, room_head, changed_head, dropped-head, answered-head, kept-head, kept_new, Wide, written_wide, written_distinct, written-named, written_other, written_here, given_wide, given_distinct, given_below, given_other}
 

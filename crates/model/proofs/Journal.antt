@@ -1,17 +1,17 @@
 -- What changes since the last sync says after a touch: if it is to be had then, it was to be had before, and holds the hash touched besides.
-use Prim.Native.Nat.{ℕ, zero, suc, ◌+◌, ◌-◌, ◌≤◌, ◌<◌, min}
-use mathlib.Core.Path.{◌≡◌, refl, sym, ◌∙◌, ap, subst}
-use mathlib.Core.Bool.{Bool, true, false, cond, not, ◌&&◌, ◌||◌}
+use Prim.Native.Nat.{ℕ, suc, ◌+◌, ◌-◌, ◌≤◌, min}
+use mathlib.Core.Path.{◌≡◌, refl, ◌∙◌}
+use mathlib.Core.Bool.{true, false, cond, ◌||◌}
 use mathlib.Core.Option.{Option, none, some}
 use mathlib.Core.List.{List, [], ◌∷◌, reverse}
 use lib.ListN.{length, take, length-take}
 use lib.Seq.{take-take}
 use native.Mathlib.Omega.{arith}
 use lib.Dec.{eqb, ltb}
-use borrow.Author.Tests.{eqb-true, eqb-false, eq-eqb, ne_eqb, ltb-true, ltb-false, le-ltb}
+use borrow.Author.Tests.{eqb-true, eqb-false, eq-eqb, ne_eqb, ltb-false, le-ltb}
 use Rattle.model.specs.Lists.{elem, distinct}
 use Rattle.model.specs.Holding.{Holdings, touch, changes_since, changes_in}
-use Rattle.model.proofs.Tools.{by_bool, no_both, no_none, or_left, or_right, elem-reverse, elem-distinct}
+use Rattle.model.proofs.Tools.{by_bool, no_none, or_right, elem-reverse, elem-distinct}
 
 pub elem_listed : (y : ℕ) (l : List ℕ) → elem y (reverse (distinct l)) ≡ elem y l
 elem_listed y l = elem-reverse y (distinct l) ∙ elem-distinct y l

@@ -1,16 +1,16 @@
 -- Laws of the list tools: members, fronts, sums, and the pigeonhole.
 use Prim.Native.Nat.{ℕ, zero, suc, ◌+◌, ◌≤◌, ◌<◌}
 use mathlib.Core.Path.{◌≡◌, refl, sym, ◌∙◌, ap}
-use mathlib.Core.Bool.{Bool, true, false, cond, not, ◌&&◌, ◌||◌}
-use mathlib.Core.Option.{Option, none, some}
-use mathlib.Core.List.{List, [], ◌∷◌, ◌++◌, reverse, reverse_aux, append-nil, append_assoc, reverse-cons, reverse-append}
+use mathlib.Core.Bool.{Bool, true, false, cond, not, ◌||◌}
+use mathlib.Core.Option.{none, some}
+use mathlib.Core.List.{List, [], ◌∷◌, ◌++◌, reverse, reverse-cons}
 use native.Mathlib.Omega.{arith}
 use lib.ListN.{length}
-use lib.Dec.{eqb, ltb}
+use lib.Dec.{eqb}
 use borrow.Author.Tests.{eqb-true, eqb-false, eq-eqb, ne_eqb}
 use Rattle.model.specs.Places.{count, sum}
-use Rattle.model.specs.Lists.{elem, those, only, all, any, front, find, last, total, each}
-use Rattle.model.proofs.Tools.{by_bool, no_both, no_none, and_left, and_right, or_left, or_right, elem-reverse}
+use Rattle.model.specs.Lists.{elem, those, only, any, front, find, last, total}
+use Rattle.model.proofs.Tools.{by_bool, no_both, no_none, or_left, or_right, elem-reverse}
 
 pub or_cases : {P : Type 0} (a b : Bool) → (a || b) ≡ true → (a ≡ true → P) → (b ≡ true → P) → P
 or_cases true b e f g = f refl

@@ -1,22 +1,19 @@
 -- Where the canonical count is local index + 1, the canonical blocks are the local walk; so an ancestor is on it, and work above it is the difference of two linked works.
-use Prim.Native.Nat.{ℕ, zero, suc, ◌+◌, ◌-◌, ◌≤◌, ◌<◌}
+use Prim.Native.Nat.{ℕ, suc, ◌-◌, ◌<◌}
 use mathlib.Core.Path.{◌≡◌, refl, sym, ◌∙◌, ap}
-use mathlib.Core.Bool.{Bool, true, false, cond, not, ◌&&◌, ◌||◌}
-use mathlib.Core.Option.{Option, none, some}
+use mathlib.Core.Bool.{Bool, true, false, not, ◌&&◌}
+use mathlib.Core.Option.{some}
 use mathlib.Core.List.{List, [], ◌∷◌, ◌++◌, reverse}
 use native.Mathlib.Omega.{arith}
-use lib.ListN.{length}
 use lib.Dec.{eqb, ltb}
-use borrow.Author.Tests.{eqb-true, ltb-true, ltb-false, lt-ltb, le-ltb}
-use Rattle.model.specs.Places.{count}
-use Rattle.model.specs.Lists.{elem, only, front, find, last, total}
-use Rattle.model.specs.Holding.{Cell, Holdings, is_live, is_canonical, index_of}
-use Rattle.model.specs.Standing.{winner, canonical, Value, is_linked, parent, value_at, work_of, outranks, best, canonical_count}
-use Rattle.model.specs.Comparing.{Work, known, Side}
-use Rattle.model.specs.Walks.{Asked, index, hash, is_canon, covers_at, meets_at, actual_at, walk, walk_of, onward, above}
+use borrow.Author.Tests.{lt-ltb, le-ltb}
+use Rattle.model.specs.Lists.{elem, only, front, last, total}
+use Rattle.model.specs.Standing.{winner, canonical, is_linked, parent, work_of, outranks, best, canonical_count}
+use Rattle.model.specs.Comparing.{known}
+use Rattle.model.specs.Walks.{Asked, index, hash, is_canon, covers_at, meets_at, actual_at, walk_of, onward, above}
 use Rattle.model.specs.Select.{on}
 use Rattle.model.specs.Adopt.{ancestor, extension, safe_front, our_side, ours}
-use Rattle.model.proofs.Tools.{by_bool, by_option, no_both, no_none, pick_some}
+use Rattle.model.proofs.Tools.{by_bool, by_option, pick_some}
 use Rattle.model.proofs.ListLaws.{elem_nil, elem_head, elem_cases, elem-find, front-find, count-elem, count_same}
 use Rattle.model.proofs.WalkLaws.{Upheld, parent_index, walk_is, upward, walk_index, walk_room, walk_once, walk-length, linked_along, linked_canonical, front_work}
 

@@ -1,16 +1,16 @@
 -- Whatever finds a first place finds the one that the model takes: the next of a sync, the best, the place of a hash, the parent. For code that looks in another order.
-use Prim.Native.Nat.{ℕ, suc, ◌≤◌, ◌<◌}
-use mathlib.Core.Path.{◌≡◌, refl, sym, ◌∙◌, ap}
-use mathlib.Core.Bool.{Bool, true, false, ◌&&◌, ◌||◌}
-use mathlib.Core.Option.{Option, none, some}
+use Prim.Native.Nat.{ℕ, ◌≤◌, ◌<◌}
+use mathlib.Core.Path.{◌≡◌, refl, ◌∙◌, ap}
+use mathlib.Core.Bool.{Bool, true, false, ◌&&◌}
+use mathlib.Core.Option.{Option, some}
 use native.Mathlib.Omega.{arith}
 use lib.Dec.{eqb, ltb}
 use borrow.Author.Tests.{eq-eqb, ltb-false}
-use Rattle.model.specs.Places.{first, pick, then_by}
+use Rattle.model.specs.Places.{then_by}
 use Rattle.model.specs.Holding.{Cell, free, held, Holdings, is_free, has_room, is_live, place_of, index_of, hash_of}
 use Rattle.model.specs.Standing.{Value, is_linked, names, parent, work_of, outranks, best}
 use Rattle.model.specs.Relink.{Pending, turn_of, goes_before, next}
-use Rattle.model.proofs.Tools.{by_bool, by_option, no_both, and_left, or_left, or_right, first_only, pick_some, pick-none}
+use Rattle.model.proofs.Tools.{by_option, no_both, and_left, or_left, or_right, first_only, pick_some, pick-none}
 use Rattle.model.proofs.Order.{next_least, best-outranks}
 use Rattle.model.proofs.Parent.{Distinct, named_one}
 

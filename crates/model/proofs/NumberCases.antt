@@ -1,14 +1,13 @@
 -- Document 01 by small examples, all computed: "Numbers given back".
 use Prim.Native.Nat.{ℕ, ◌+◌}
 use mathlib.Core.Path.{◌≡◌, refl}
-use mathlib.Core.Bool.{Bool, true, false}
-use mathlib.Core.Option.{Option, none, some}
-use mathlib.Core.List.{List, [], ◌∷◌}
+use mathlib.Core.Option.{none, some}
+use mathlib.Core.List.{[], ◌∷◌}
 use Rattle.model.specs.Record.{Block}
 use Rattle.model.specs.Questions.{node, linked_q, best_q, leaves_q, effective_q, effective_count_q, generation_q, version_q, changes_q, shown, worth, counted, holdings_reply}
-use Rattle.model.specs.Standing.{unlinked, linked}
-use Rattle.model.specs.Numbers.{State, load, put, remove, answer, reload, sync, begin, start_number, max_word, number, ask_tree, ask_holdings}
-use Rattle.model.proofs.Cases.{calls, everything, plain, dead, block, genesis, a, b, started, held_all, first_sync, ask}
+use Rattle.model.specs.Standing.{unlinked}
+use Rattle.model.specs.Numbers.{State, load, put, remove, answer, reload, begin, start_number, max_word, number, ask_tree, ask_holdings}
+use Rattle.model.proofs.Cases.{calls, everything, plain, dead, block, genesis, a, started, held_all, first_sync, ask}
 
 -- ---- 1 ROOM ----
 

@@ -1,12 +1,12 @@
 -- The place that a sync takes next goes before every other pending one, and no linked block outranks the best.
 use Prim.Native.Nat.{ℕ, ◌<◌}
-use mathlib.Core.Path.{◌≡◌, refl}
+use mathlib.Core.Path.{◌≡◌}
 use mathlib.Core.Bool.{Bool, true, false}
 use mathlib.Core.Option.{some}
 use native.Mathlib.Omega.{arith}
 use lib.Dec.{ltb}
 use borrow.Author.Tests.{ltb-true, lt-ltb, le-ltb}
-use Rattle.model.specs.Places.{pick, then_by}
+use Rattle.model.specs.Places.{then_by}
 use Rattle.model.specs.Holding.{Cell, Holdings, index_of, hash_of}
 use Rattle.model.specs.Standing.{Value, is_linked, work_of, outranks, best}
 use Rattle.model.specs.Relink.{Pending, turn_of, goes_before, next}

@@ -1,17 +1,16 @@
 -- The place named and the parent: one place at most has room for a hash, so the parent is the place named if that is live, and there is none if it is not.
 -- The place that a sync takes next is worked out alike by both: a place that is not live goes first.
-use Prim.Native.Nat.{ℕ, zero, suc, ◌<◌}
+use Prim.Native.Nat.{ℕ, suc}
 use mathlib.Core.Path.{◌≡◌, refl, sym, ◌∙◌, ap}
-use mathlib.Core.Bool.{Bool, true, false, cond, ◌&&◌}
-use mathlib.Core.Option.{Option, none, some}
+use mathlib.Core.Bool.{Bool, true, false, ◌&&◌}
+use mathlib.Core.Option.{none, some}
 use native.Mathlib.Omega.{arith}
-use lib.Dec.{eqb, ltb}
+use lib.Dec.{eqb}
 use borrow.Author.Tests.{lt-ltb}
-use Rattle.model.specs.Places.{first, then_by}
-use Rattle.model.specs.Holding.{Cell, free, held, Holdings, has_room, is_live, index_of, hash_of}
+use Rattle.model.specs.Holding.{Cell, free, held, Holdings, has_room, is_live, index_of}
 use Rattle.model.specs.Standing.{Spine, Value, unlinked, Values, standing, names, parent, value_at}
-use Rattle.model.specs.Relink.{Pending, work_out, turn_of, goes_before, next}
-use Rattle.model.proofs.Tools.{by_bool, by_option, no_both, no_none, and_left, and_right, first_some, first_none, first_only, first_nowhere}
+use Rattle.model.specs.Relink.{Pending, work_out, goes_before, next}
+use Rattle.model.proofs.Tools.{by_bool, by_option, no_both, and_left, and_right, first_none, first_only, first_nowhere}
 use Rattle.model.proofs.Order.{next_least}
 use Rattle.model.proofs.Turn.{named, work_named, Consistent, names_index, named_some, parent-some, work_dead, named_dead}
 

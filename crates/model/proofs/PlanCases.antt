@@ -1,7 +1,7 @@
 -- Document 01 by small examples, all computed: "The two plans", sentence by sentence, and "Easy slips".
 use Prim.Native.Nat.{ℕ}
 use mathlib.Core.Path.{◌≡◌, refl}
-use mathlib.Core.Bool.{Bool, true, false}
+use mathlib.Core.Bool.{true, false}
 use mathlib.Core.Option.{Option, none, some}
 use mathlib.Core.List.{List, [], ◌∷◌}
 use lib.IntN.{ℤ}

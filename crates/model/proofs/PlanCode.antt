@@ -1,12 +1,12 @@
 -- For code that goes another way: two blocks of one walk with one index are one, the fork is the highest common block, changes kept by place build up, and a rising list is told by its members.
-use Prim.Native.Nat.{ℕ, suc, ◌≤◌, ◌<◌}
+use Prim.Native.Nat.{ℕ, ◌≤◌, ◌<◌}
 use mathlib.Core.Path.{◌≡◌, refl, sym, ◌∙◌, ap}
-use mathlib.Core.Bool.{Bool, true, false, cond, not, ◌&&◌, ◌||◌}
+use mathlib.Core.Bool.{Bool, true, false, cond, not, ◌||◌}
 use mathlib.Core.Option.{Option, none, some}
 use mathlib.Core.List.{List, [], ◌∷◌, ◌++◌}
 use native.Mathlib.Omega.{arith}
 use lib.Dec.{eqb, ltb}
-use borrow.Author.Tests.{eqb-true, eqb-false, eq-eqb, ne_eqb, ltb-true, ltb-false, le-ltb}
+use borrow.Author.Tests.{eqb-true, eqb-false, ne_eqb, ltb-false, le-ltb}
 use Rattle.model.specs.Lists.{elem, only, front, find}
 use Rattle.model.specs.Record.{Copy}
 use Rattle.model.specs.Holding.{Holdings, index_of}
@@ -15,7 +15,7 @@ use Rattle.model.specs.Walks.{Asked, index, onward, walk, walk_of, fork, above}
 use Rattle.model.specs.Writes.{changed, Write, after_all, touched}
 use Rattle.model.specs.Select.{on}
 use Rattle.model.proofs.Tools.{by_bool, by_option, no_both, no_none, not_is_true}
-use Rattle.model.proofs.ListLaws.{elem_nil, elem_head, elem_cases, elem_append, elem-front, elem-find, front-find, or_cases}
+use Rattle.model.proofs.ListLaws.{elem_nil, elem_head, elem_cases, elem_append, elem-front, elem-find, front-find}
 use Rattle.model.proofs.WalkLaws.{parent_index, walk_is, upward, walk_top, walk_index, walk_part}
 use Rattle.model.proofs.LocalWalk.{only_none}
 use Rattle.model.proofs.Entries.{Rising}

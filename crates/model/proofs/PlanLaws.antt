@@ -1,22 +1,21 @@
 -- The plans gone through once: what holds of every kind of change that they make, at the places where they make it, holds of every change of a plan.
 use Prim.Native.Nat.{ℕ, suc, ◌<◌}
-use mathlib.Core.Path.{◌≡◌, refl, sym, ◌∙◌, ap}
-use mathlib.Core.Bool.{Bool, true, false, cond, not, ◌&&◌, ◌||◌}
+use mathlib.Core.Path.{◌≡◌}
+use mathlib.Core.Bool.{Bool, true, false, cond, not, ◌&&◌}
 use mathlib.Core.Option.{Option, none, some}
-use mathlib.Core.List.{List, [], ◌∷◌, ◌++◌, reverse}
-use lib.IntN.{ℤ}
+use mathlib.Core.List.{List, [], ◌∷◌, ◌++◌}
 use lib.Dec.{eqb, ltb}
 use borrow.Author.Tests.{eq-eqb}
-use Rattle.model.specs.Lists.{elem, those, only, front, each, is_empty, put_in, sorted}
+use Rattle.model.specs.Lists.{elem, those, only, each, is_empty, put_in, sorted}
 use Rattle.model.specs.Record.{Reason, off_spine, competing_fork, stale_fork}
-use Rattle.model.specs.Standing.{winner, canonical, Value, is_linked, best, outranks, is_leaf, canonical_count}
+use Rattle.model.specs.Standing.{winner, canonical, best, outranks, is_leaf, canonical_count}
 use Rattle.model.specs.Comparing.{Comparison, choose_verified, is_adopted}
 use Rattle.model.specs.Walks.{Asked, index, is_canon, covers_at, walk_of, fork, above, under}
 use Rattle.model.specs.Writes.{Change, promote, demote, orphan, Write, Plan, scan, apply, copy_after}
-use Rattle.model.specs.Select.{on, off, aside, demotions, stop, held_back, goes_on, promotions, competitors, switch, select_at, select_from, select}
-use Rattle.model.specs.Adopt.{leaves_of, extension, ancestor, safe_front, ours, peers, Verdict, pass_on, refused, accepted, floor_refuses, is_stale, refusal, rival, acceptance, decided, judge_safe, judge_above, judge, first_those, then, search_leaves, adopt_from, adopt}
-use Rattle.model.proofs.Tools.{by_bool, by_option, no_both}
-use Rattle.model.proofs.ListLaws.{elem_head, elem_cases, elem_append, elem-only, elem-those, elem-front, elem_rev}
+use Rattle.model.specs.Select.{on, off, aside, demotions, held_back, goes_on, promotions, competitors, select_at, select_from, select}
+use Rattle.model.specs.Adopt.{leaves_of, extension, ancestor, safe_front, ours, peers, Verdict, pass_on, refused, accepted, floor_refuses, is_stale, refusal, rival, acceptance, decided, judge_safe, judge_above, judge, then, search_leaves, adopt_from, adopt}
+use Rattle.model.proofs.Tools.{by_bool, by_option}
+use Rattle.model.proofs.ListLaws.{elem_head, elem_cases, elem_append, elem-only, elem-those, elem-front}
 
 -- ---- every change of a list, of a plan, of a verdict ----
 

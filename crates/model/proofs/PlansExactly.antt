@@ -1,20 +1,19 @@
 -- When each plan scans, exactly; a select that says 0 changes nothing; and, of every run with a fresh tree: the entries are in order, and where Adopt looks, the canonical blocks are the local walk.
-use Prim.Native.Nat.{ℕ, suc, ◌-◌, ◌≤◌, ◌<◌}
-use mathlib.Core.Path.{◌≡◌, refl, sym, ◌∙◌, ap}
-use mathlib.Core.Bool.{Bool, true, false, cond, not, ◌&&◌, ◌||◌}
+use Prim.Native.Nat.{ℕ, suc, ◌-◌, ◌<◌}
+use mathlib.Core.Path.{◌≡◌, refl, sym, ◌∙◌}
+use mathlib.Core.Bool.{Bool, true, false, not, ◌&&◌}
 use mathlib.Core.Option.{Option, none, some}
-use mathlib.Core.List.{List, [], ◌∷◌, ◌++◌, reverse}
+use mathlib.Core.List.{List, [], ◌∷◌, reverse}
 use native.Mathlib.Omega.{arith}
 use lib.IntN.{ℤ}
-use lib.ListN.{length}
 use lib.Dec.{eqb}
 use Rattle.model.specs.Places.{is_some}
 use Rattle.model.specs.Lists.{is_empty, front, last, total}
-use Rattle.model.specs.Holding.{Holdings, is_canonical, live_count}
-use Rattle.model.specs.Standing.{Spine, winner, canonical, Value, is_linked, work_of, best, canonical_count}
-use Rattle.model.specs.Comparing.{known, Side}
+use Rattle.model.specs.Holding.{is_canonical}
+use Rattle.model.specs.Standing.{winner, canonical, is_linked, work_of, best, canonical_count}
+use Rattle.model.specs.Comparing.{known}
 use Rattle.model.specs.Walks.{Asked, index, hash, meets_at, actual_at, fork, above}
-use Rattle.model.specs.Writes.{Write, Plan, scan, apply, entries}
+use Rattle.model.specs.Writes.{Write, Plan, scan, apply}
 use Rattle.model.specs.Select.{on, aside, demotions, some?, held_back, goes_on, select_at, select_from, select}
 use Rattle.model.specs.Adopt.{Verdict, pass_on, refused, accepted, ancestor, extension, safe_front, ours, judge, then, search_leaves, leaves_of, adopt_from, adopt}
 use Rattle.model.specs.Numbers.{State}
@@ -23,7 +22,7 @@ use Rattle.model.specs.Runs.{Run}
 use Rattle.model.proofs.Tools.{by_bool, by_option, no_both}
 use Rattle.model.proofs.Demand3.{distinct}
 use Rattle.model.proofs.Upheld.{upheld}
-use Rattle.model.proofs.PlanLaws.{Every, Says}
+use Rattle.model.proofs.PlanLaws.{Says}
 use Rattle.model.proofs.Entries.{OfLive, Orderly, orderly, select_live, adopt_live}
 use Rattle.model.proofs.LocalWalk.{canonical_spine, spine_canonical, ancestor-on, our_work, peer_work_lem}
 

@@ -1,33 +1,33 @@
 -- After a plan's entries are put on the records, each live block's effective copy is as the plan's changes leave it, and no other block changes; so after a select that switches, the canonical blocks are best's walk.
-use Prim.Native.Nat.{ℕ, suc, ◌≤◌, ◌<◌}
+use Prim.Native.Nat.{ℕ, ◌<◌}
 use mathlib.Core.Path.{◌≡◌, refl, sym, ◌∙◌, ap}
-use mathlib.Core.Bool.{Bool, true, false, cond, not, ◌&&◌, ◌||◌}
+use mathlib.Core.Bool.{Bool, true, false, cond, ◌&&◌, ◌||◌}
 use mathlib.Core.Option.{Option, none, some}
 use mathlib.Core.List.{List, [], ◌∷◌, ◌++◌}
 use native.Mathlib.Omega.{arith}
 use lib.IntN.{ℤ}
 use lib.Dec.{eqb, ltb}
-use borrow.Author.Tests.{eqb-true, eqb-false, eq-eqb, ltb-true, ltb-false}
+use borrow.Author.Tests.{eqb-true, eq-eqb, ltb-true, ltb-false}
 use Rattle.model.specs.Lists.{elem, those, each, put_in, sorted, is_empty}
-use Rattle.model.specs.Record.{Reason, Copy}
-use Rattle.model.specs.Holding.{active, Held, Cell, free, held, Holdings, set_copy, effective, copy_is_live, copy_is_canonical, is_free, is_live, is_canonical, hash_of}
+use Rattle.model.specs.Record.{Copy}
+use Rattle.model.specs.Holding.{active, Held, Cell, free, held, Holdings, set_copy, effective, copy_is_live, is_free, is_live, is_canonical, hash_of}
 use Rattle.model.specs.Standing.{winner, canonical, is_linked, outranks, best}
 use Rattle.model.specs.Walks.{Asked, fork}
-use Rattle.model.specs.Writes.{Change, promote, demote, orphan, changed, Write, after_all, touched, or_blank, copy_of, copy_after, Entry, entry_at, earlier, places_of, entries, Plan, scan, apply}
+use Rattle.model.specs.Writes.{Change, changed, Write, after_all, touched, or_blank, copy_of, copy_after, Entry, entry_at, earlier, places_of, entries}
 use Rattle.model.specs.Select.{on, aside, demotions, held_back, goes_on, promotions, competitors, switch, select}
 use Rattle.model.specs.Numbers.{State}
-use Rattle.model.specs.Plans.{records_after, select_c, asked, plan_reply, entry_put, cell_with}
+use Rattle.model.specs.Plans.{records_after, select_c, asked, plan_reply, cell_with}
 use Rattle.model.specs.Runs.{Run}
-use Rattle.model.proofs.Tools.{by_bool, by_option, no_both, not_is_true, or_left, or_right, pick_some}
+use Rattle.model.proofs.Tools.{by_bool, no_both, not_is_true, or_left, or_right, pick_some}
 use Rattle.model.proofs.Parent.{Distinct}
 use Rattle.model.proofs.NoSlack.{one_place}
 use Rattle.model.proofs.Demand3.{distinct, wide}
 use Rattle.model.proofs.Invariant.{live_free}
-use Rattle.model.proofs.ListLaws.{elem_nil, elem_head, elem_cases, elem-those, those-elem}
+use Rattle.model.proofs.ListLaws.{elem_nil, elem_head, elem_cases, those-elem}
 use Rattle.model.proofs.WalkLaws.{canonical_live, linked_alive, walk_live}
 use Rattle.model.proofs.Upheld.{upheld}
-use Rattle.model.proofs.PlanLaws.{Every, Says, elem-sorted, select_every}
-use Rattle.model.proofs.Entries.{OfLive, Orderly, orderly, not_free, select_live}
+use Rattle.model.proofs.PlanLaws.{Every, Says, select_every}
+use Rattle.model.proofs.Entries.{OfLive, orderly, not_free, select_live}
 use Rattle.model.proofs.Switched.{switch_canonical, select_switches}
 
 abbrev pub copy_here : Cell → Option Copy

@@ -1,16 +1,16 @@
 -- All the turns of a sync: the two laws of `settled`, which tell it, and that in the end every place is consistent.
-use Prim.Native.Nat.{ℕ, zero, suc, ◌+◌, ◌*◌, ◌-◌, ◌^◌, ◌≤◌, ◌<◌}
-use mathlib.Core.Path.{◌≡◌, refl, sym, ◌∙◌, ap, subst, fun_ext}
-use mathlib.Core.Bool.{Bool, true, false, cond, not, ◌&&◌, ◌||◌}
-use mathlib.Core.Option.{Option, none, some}
+use Prim.Native.Nat.{ℕ, zero, suc, ◌≤◌}
+use mathlib.Core.Path.{◌≡◌, refl, sym, ◌∙◌}
+use mathlib.Core.Bool.{Bool, true, false, ◌&&◌}
+use mathlib.Core.Option.{none, some}
 use native.Mathlib.Omega.{arith}
-use lib.Dec.{eqb, ltb}
-use borrow.Author.Tests.{eqb-true, eqb-false, eq-eqb, ne_eqb, ltb-true, ltb-false}
-use Rattle.model.specs.Holding.{Cell, Holdings, is_free, index_of}
-use Rattle.model.specs.Standing.{Spine, winner, canonical, Value, Values, names, parent}
-use Rattle.model.specs.Relink.{Pending, work_out, moves, worked, follows, after, goes_before, next, settle, turns, settled}
-use Rattle.model.proofs.Tools.{by_bool, by_option, no_both, no_none, or_left, or_none, pick_some, pick-none}
-use Rattle.model.proofs.Turn.{Consistent, names_index, parent-some, moves_not, worked_there, worked_once, worked_idle, work_elsewhere, turn_consistent, follows_free}
+use lib.Dec.{ltb}
+use borrow.Author.Tests.{ltb-true, ltb-false}
+use Rattle.model.specs.Holding.{Holdings, is_free}
+use Rattle.model.specs.Standing.{Spine, Values}
+use Rattle.model.specs.Relink.{Pending, moves, worked, after, goes_before, next, settle, turns, settled}
+use Rattle.model.proofs.Tools.{by_bool, by_option, pick-none}
+use Rattle.model.proofs.Turn.{Consistent, turn_consistent, follows_free}
 use Rattle.model.proofs.Turns.{bound, turns_fall, turns_start}
 use Rattle.model.proofs.Parent.{Distinct, next_agrees}
 

@@ -1,20 +1,20 @@
 -- After a select that switches, the canonical blocks are best's walk and no others.
-use Prim.Native.Nat.{ℕ, suc, ◌≤◌, ◌<◌}
+use Prim.Native.Nat.{ℕ, suc, ◌<◌}
 use mathlib.Core.Path.{◌≡◌, refl, sym, ◌∙◌, ap}
 use mathlib.Core.Bool.{Bool, true, false, cond, not, ◌&&◌, ◌||◌}
 use mathlib.Core.Option.{Option, none, some}
 use mathlib.Core.List.{List, [], ◌∷◌, ◌++◌}
 use native.Mathlib.Omega.{arith}
 use lib.Dec.{eqb, ltb}
-use borrow.Author.Tests.{eqb-true, eqb-false, eq-eqb, ne_eqb, ltb-true, ltb-false}
+use borrow.Author.Tests.{eqb-true, eqb-false, eq-eqb, ne_eqb, ltb-true}
 use Rattle.model.specs.Lists.{elem, those, only, each, is_empty}
 use Rattle.model.specs.Record.{off_spine, competing_fork, Copy}
-use Rattle.model.specs.Holding.{Held, Cell, free, held, Holdings, effective, copy_is_live, copy_is_canonical, is_live, is_canonical}
-use Rattle.model.specs.Standing.{winner, canonical, Value, best, canonical_count}
+use Rattle.model.specs.Holding.{Cell, free, held, effective, copy_is_live, copy_is_canonical, is_live, is_canonical}
+use Rattle.model.specs.Standing.{winner, canonical, best, canonical_count}
 use Rattle.model.specs.Walks.{Asked, index, is_canon, walk_of, fork, above, under}
-use Rattle.model.specs.Writes.{Change, promote, demote, changed, Write, after_all, or_blank, copy_of, copy_after, Plan, apply}
+use Rattle.model.specs.Writes.{Change, promote, demote, changed, after_all, or_blank, copy_of, copy_after}
 use Rattle.model.specs.Select.{on, off, aside, demotions, held_back, goes_on, promotions, competitors, switch, select_at, select_from, select}
-use Rattle.model.proofs.Tools.{by_bool, by_option, no_both, and_left, and_right}
+use Rattle.model.proofs.Tools.{by_bool, no_both, and_left, and_right}
 use Rattle.model.proofs.ListLaws.{elem-those, those-elem, elem_append}
 use Rattle.model.proofs.WalkLaws.{Upheld}
 use Rattle.model.proofs.LocalWalk.{above_is, spine_canonical, none_off}

@@ -1,13 +1,13 @@
 -- Laws of tests, of the search for a place, and of lists of hashes.
-use Prim.Native.Nat.{ℕ, zero, suc, ◌+◌, ◌*◌, ◌-◌, ◌≤◌, ◌<◌}
-use mathlib.Core.Path.{◌≡◌, refl, sym, ◌∙◌, ap, subst}
+use Prim.Native.Nat.{ℕ, zero, suc, ◌<◌}
+use mathlib.Core.Path.{◌≡◌, refl, sym, ◌∙◌, ap}
 use mathlib.Core.Bool.{Bool, true, false, cond, not, ◌&&◌, ◌||◌}
 use mathlib.Core.Option.{Option, none, some}
-use mathlib.Core.List.{List, [], ◌∷◌, ◌++◌, reverse, reverse_aux}
+use mathlib.Core.List.{List, [], ◌∷◌, reverse, reverse_aux}
 use native.Mathlib.Omega.{arith}
 use lib.Dec.{eqb, ltb}
-use borrow.Author.Tests.{eqb-true, eqb-false, eq-eqb, ne_eqb, ltb-true, ltb-false, lt-ltb, le-ltb}
-use Rattle.model.specs.Places.{or_else, is_some, first, choose, pick, then_by, count, sum, put_at}
+use borrow.Author.Tests.{eqb-true, eqb-false, eq-eqb, ltb-true, lt-ltb, le-ltb}
+use Rattle.model.specs.Places.{or_else, first, choose, pick, then_by, put_at}
 use Rattle.model.specs.Lists.{elem, without, distinct}
 
 -- ---- cases, with the equation ----
@@ -224,4 +224,4 @@ elem-without x y (z ∷ l) = go (eqb y z) refl (eqb x y) refl (eqb x z) refl (el
 pub elem-distinct : (x : ℕ) (l : List ℕ) → elem x (distinct l) ≡ elem x l
 unfolding elem distinct
 elem-distinct x [] = refl
-elem-distinct x (y ∷ l) = rw (elem-without, elem-distinct x l) (by_bool (eqb x y) (λ e. rw e) (λ e. rw e))
+elem-distinct x (y ∷ l) = rw (elem-without x y (distinct l), elem-distinct x l) (by_bool (eqb x y) (λ e. rw e) (λ e. rw e))

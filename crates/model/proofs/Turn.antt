@@ -1,17 +1,17 @@
 -- One turn of a sync: a pending place is worked out, and what is not pending stays consistent.
-use Prim.Native.Nat.{ℕ, zero, suc, ◌+◌, ◌*◌, ◌-◌, ◌^◌, ◌≤◌, ◌<◌}
-use mathlib.Core.Path.{◌≡◌, refl, sym, ◌∙◌, ap, subst, fun_ext}
-use mathlib.Core.Bool.{Bool, true, false, cond, not, ◌&&◌, ◌||◌, beq}
+use Prim.Native.Nat.{ℕ, suc, ◌<◌}
+use mathlib.Core.Path.{◌≡◌, refl, sym, ◌∙◌, ap, fun_ext}
+use mathlib.Core.Bool.{Bool, true, false, cond, not, ◌&&◌, beq}
 use mathlib.Core.Option.{Option, none, some}
 use native.Mathlib.Omega.{arith}
-use lib.Dec.{eqb, ltb}
+use lib.Dec.{eqb}
 use borrow.Author.Tests.{eqb-true, eqb-false, eq-eqb, ne_eqb}
 use Rattle.amount.specs.Amounts.{Amount, readable, unreadable}
-use Rattle.model.specs.Places.{first, count, sum, put_at}
+use Rattle.model.specs.Places.{first}
 use Rattle.model.specs.Record.{Header, Copy}
-use Rattle.model.specs.Holding.{Held, Cell, free, held, Holdings, effective, copy_is_live, copy_is_canonical, is_free, is_live, is_canonical, index_of}
+use Rattle.model.specs.Holding.{Cell, free, held, Holdings, effective, copy_is_live, copy_is_canonical, is_free, is_live, is_canonical, index_of}
 use Rattle.model.specs.Standing.{Spine, winner, canonical, Value, unlinked, linked, Values, may, on_actual, standing, names, parent, value_at}
-use Rattle.model.specs.Relink.{Pending, work_out, same, moves, worked, follows, after, settle, settled}
+use Rattle.model.specs.Relink.{Pending, work_out, same, moves, worked, follows, after}
 use Rattle.model.proofs.Tools.{by_bool, by_option, no_both, no_none, and_left, and_right, or_left, or_right, not_is, first_some, put_same, put_other}
 
 -- ---- values ----

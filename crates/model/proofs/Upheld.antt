@@ -1,22 +1,22 @@
 -- In a fresh tree what is linked is linked by the rule, with no premise on answers: a later ineligible answer alone is what a value may not have seen.
-use Prim.Native.Nat.{ℕ, zero, suc, ◌+◌, ◌≤◌, ◌<◌}
+use Prim.Native.Nat.{ℕ, ◌≤◌}
 use mathlib.Core.Path.{◌≡◌, refl, sym, ◌∙◌, ap}
-use mathlib.Core.Bool.{Bool, true, false, cond, not, ◌&&◌, ◌||◌}
+use mathlib.Core.Bool.{Bool, true, false, cond, not, ◌&&◌}
 use mathlib.Core.Option.{Option, none, some}
-use mathlib.Core.List.{List, [], ◌∷◌}
+use mathlib.Core.List.{List, []}
 use native.Mathlib.Omega.{arith}
 use lib.Dec.{eqb, ltb}
-use borrow.Author.Tests.{eqb-true, eqb-false, eq-eqb, ne_eqb, ltb-true, ltb-false, lt-ltb}
-use Rattle.model.specs.Places.{is_some, first, put_at, then_by}
+use borrow.Author.Tests.{eqb-true, eqb-false, ne_eqb, ltb-true, ltb-false, lt-ltb}
+use Rattle.model.specs.Places.{first, put_at}
 use Rattle.model.specs.Lists.{elem}
-use Rattle.model.specs.Holding.{Answer, eligible, Held, Cell, free, held, Holdings, set_answer, answered, effective, is_free, has_room, is_held, is_live, released, release, with_cells, place_of, take_answer, touch, store_of, keep, drop, has_copy, empty, index_of, hash_of, answer_of}
+use Rattle.model.specs.Holding.{Answer, Cell, free, held, Holdings, set_answer, answered, is_free, is_held, is_live, released, release, with_cells, place_of, take_answer, touch, store_of, keep, drop, has_copy, empty, index_of, answer_of}
 use Rattle.model.specs.Standing.{Spine, winner, canonical, Value, unlinked, linked, Values, is_linked, standing, names, parent, value_at}
-use Rattle.model.specs.Relink.{goes_before, Pending, work_out, worked, moves, follows, after, turn_of, next, settled, changed_in, relinked}
-use Rattle.model.specs.Numbers.{State, Call, load, put, remove, answer, reload, sync, begin, number, stale, changes_from, changes, effect, step}
+use Rattle.model.specs.Relink.{goes_before, Pending, work_out, worked, moves, follows, after, next, settled, changed_in, relinked}
+use Rattle.model.specs.Numbers.{State, Call, load, put, remove, answer, reload, sync, number, stale, changes, effect, step}
 use Rattle.model.specs.Runs.{New, Run, start, call, new_of}
-use Rattle.model.proofs.Tools.{by_bool, by_option, no_both, no_none, and_left, or_left, or_right, first_some, first_none, first_only, first_nowhere, pick-none, put_same, put_other}
+use Rattle.model.proofs.Tools.{by_bool, by_option, no_both, no_none, or_left, or_right, first_some, first_none, first_only, first_nowhere, pick-none}
 use Rattle.model.proofs.Order.{next_least}
-use Rattle.model.proofs.Turn.{named, named_some, parent-some, names_index, names_other, follows_named, follows_free, worked_here, worked_there, worked_idle}
+use Rattle.model.proofs.Turn.{named, named_some, names_index, names_other, follows_named, follows_free, worked_here, worked_there, worked_idle}
 use Rattle.model.proofs.Parent.{Distinct, named_one, parent_value}
 use Rattle.model.proofs.FromNothing.{names-free, dead_unheld, rule_holds}
 use Rattle.model.proofs.Demand3.{canonical_values}

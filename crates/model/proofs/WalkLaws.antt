@@ -1,19 +1,19 @@
 -- Laws of walks: what a walk is with no count of steps, what its members have, its length, and its work as a sum of actuals.
 use Prim.Native.Nat.{ℕ, zero, suc, ◌+◌, ◌-◌, ◌≤◌, ◌<◌}
 use mathlib.Core.Path.{◌≡◌, refl, sym, ◌∙◌, ap}
-use mathlib.Core.Bool.{Bool, true, false, cond, not, ◌&&◌, ◌||◌}
+use mathlib.Core.Bool.{Bool, true, false, not, ◌&&◌}
 use mathlib.Core.Option.{Option, none, some}
-use mathlib.Core.List.{List, [], ◌∷◌, ◌++◌, reverse, append_assoc, append-nil, reverse-append, reverse-reverse}
+use mathlib.Core.List.{List, [], ◌∷◌, ◌++◌, reverse, append_assoc, reverse-append, reverse-reverse}
 use native.Mathlib.Omega.{arith}
 use lib.ListN.{length}
 use lib.Dec.{eqb, ltb}
-use borrow.Author.Tests.{eqb-true, ltb-true, ltb-false, lt-ltb, le-ltb}
+use borrow.Author.Tests.{eqb-true}
 use Rattle.amount.specs.Amounts.{Amount, readable, unreadable, limit}
-use Rattle.model.specs.Lists.{elem, only, front, find, last, total}
+use Rattle.model.specs.Lists.{elem, front, last, total}
 use Rattle.model.specs.Record.{Copy}
-use Rattle.model.specs.Holding.{eligible, set_answer, answered, Held, Cell, free, held, Holdings, effective, copy_is_live, copy_is_canonical, is_live, is_canonical, index_of}
+use Rattle.model.specs.Holding.{eligible, set_answer, answered, Cell, free, held, Holdings, effective, copy_is_live, copy_is_canonical, is_live, is_canonical, index_of}
 use Rattle.model.specs.Standing.{on_parent, Spine, winner, canonical, Value, unlinked, linked, is_linked, not_ineligible, meets_target, on_actual, may, standing, parent, value_at, work_of}
-use Rattle.model.specs.Walks.{cell_actual, amount_of, onward, down, walk}
+use Rattle.model.specs.Walks.{cell_actual, onward, down, walk}
 use Rattle.model.proofs.Tools.{by_bool, by_option, no_both, no_none, and_left, and_right}
 use Rattle.model.proofs.Turn.{names_index, parent-some}
 use Rattle.model.proofs.FromNothing.{Ruled}

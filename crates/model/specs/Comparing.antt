@@ -1,5 +1,5 @@
 -- Document 01, "Comparing two chains": `choose_verified`, and covering the nomination epoch.
-use Rattle.std.specs.Prelude.{ℕ, ◌+◌, ◌*◌, ◌-◌, min, Bool, true, false, ◌&&◌, ◌||◌, eqb, ltb, leb}
+use Rattle.std.specs.Prelude.{ℕ, ◌+◌, ◌*◌, ◌-◌, min, Bool, true, false, ◌||◌, eqb, ltb, leb}
 use Rattle.amount.specs.Choose.{◌if◌else◌}
 use Rattle.model.specs.Record.{Reason, same_tip, neither, peer_only, local_only, peer_work, local_work, peer_tip, local_tip, peer_hash, local_hash, Header}
 

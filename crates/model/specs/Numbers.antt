@@ -1,5 +1,5 @@
 -- Document 01, "Numbers given back": the number of each call, the refusals in 01's order, and the state after it.
-use Rattle.std.specs.Prelude.{ℕ, ◌+◌, ◌*◌, ◌≤◌, Bool, true, false, not, ◌&&◌, ◌||◌, List, eqb, ltb, leb}
+use Rattle.std.specs.Prelude.{ℕ, ◌+◌, ◌*◌, ◌≤◌, Bool, true, false, not, ◌&&◌, List, eqb, ltb, leb}
 use Rattle.std.proofs.Math.Option.{Option, none, some}
 use Rattle.amount.specs.Choose.{◌if◌else◌}
 use Rattle.model.specs.Places.{is_some}
@@ -7,7 +7,7 @@ use Rattle.model.specs.Record.{Block, same_header}
 use Rattle.model.specs.Holding.{Answer, eligible, for_now, ineligible, answer_of, Cell, free, held, Holdings, store_of, place_of, free_place, test_at, keep, drop, has_copy, take_answer, touch, release, empty, changes_since}
 use Rattle.model.specs.Standing.{Values, unlinked}
 use Rattle.model.specs.Relink.{relinked}
-use Rattle.model.specs.Questions.{TreeQuestion, HoldingsQuestion, Reply, tree_reply, holdings_reply, too_short, tree_lent, holdings_lent}
+use Rattle.model.specs.Questions.{TreeQuestion, HoldingsQuestion, tree_reply, holdings_reply, too_short, tree_lent, holdings_lent}
 
 -- a generation and a version of it
 pub record Point : Type 0 where

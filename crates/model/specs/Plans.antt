@@ -1,11 +1,10 @@
 -- Document 01, "Numbers given back", the two plans as calls: the number, what the host gets, and its entries put on the records.
-use Rattle.std.specs.Prelude.{ℕ, Bool, true, false, not, List, [], ◌∷◌, ℤ, eqb, ltb}
-use Rattle.std.proofs.Math.Option.{Option, none, some}
+use Rattle.std.specs.Prelude.{ℕ, not, List, [], ◌∷◌, ℤ, eqb, ltb}
+use Rattle.std.proofs.Math.Option.{Option, some}
 use Rattle.amount.specs.Choose.{◌if◌else◌}
-use Rattle.model.specs.Record.{Copy}
 use Rattle.model.specs.Holding.{active, Cell, free, held, Holdings, set_copy, with_cells, live_count}
 use Rattle.model.specs.Walks.{Asked}
-use Rattle.model.specs.Writes.{Write, Entry, entries, Plan, scan, apply}
+use Rattle.model.specs.Writes.{Entry, entries, Plan, scan, apply}
 use Rattle.model.specs.Select.{select}
 use Rattle.model.specs.Adopt.{adopt}
 use Rattle.model.specs.Numbers.{State}

@@ -1,12 +1,12 @@
 -- Document 01, "Numbers given back": the questions and what they are answered. The tree's are answered over values, which are either
 -- the tree's own or those worked out from nothing (demand 3 says that the two answers are one).
-use Rattle.std.specs.Prelude.{ℕ, Bool, true, false, List, length, ltb}
+use Rattle.std.specs.Prelude.{ℕ, Bool, false, List, length, ltb}
 use Rattle.std.proofs.Math.Option.{Option, none, some}
 use Rattle.amount.specs.Choose.{◌if◌else◌}
 use Rattle.model.specs.Lists.{those, each, sorted}
-use Rattle.model.specs.Record.{Header, Copy, Block}
+use Rattle.model.specs.Record.{Copy, Block}
 use Rattle.model.specs.Holding.{Held, Cell, free, held, Holdings, effective, is_live, hash_of, place_of, effective_count, live_count, changes_since}
-use Rattle.model.specs.Standing.{winner, canonical, Value, unlinked, linked, Values, parent, value_at, best, is_leaf, canonical_count}
+use Rattle.model.specs.Standing.{winner, canonical, Value, Values, parent, value_at, best, is_leaf, canonical_count}
 
 -- Tree questions: node, parent, linked, canonical linked, best, canonical best, leaves, canonical count, live count. (Leaves says how long the lent list is.)
 pub data TreeQuestion : Type 0 where

@@ -6,7 +6,7 @@ use Rattle.amount.specs.Choose.{◌if◌else◌}
 use Rattle.model.specs.Places.{pick, then_by, put_at}
 use Rattle.model.specs.Lists.{elem}
 use Rattle.model.specs.Holding.{Cell, free, held, Holdings, is_live, hash_of, index_of}
-use Rattle.model.specs.Standing.{Spine, winner, canonical, Value, unlinked, linked, Values, standing, parent, value_at}
+use Rattle.model.specs.Standing.{winner, canonical, Value, unlinked, linked, Values, standing, parent, value_at}
 
 -- places to be worked out
 abbrev pub Pending : Type 0

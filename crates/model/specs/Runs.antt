@@ -1,6 +1,5 @@
 -- Demand 3's histories: any calls from a fresh start, and the premise on ineligible answers.
 use Rattle.std.specs.Prelude.{ℕ, ◌≡◌, Bool, true, false, not, ◌&&◌, ◌||◌, eqb}
-use Rattle.std.proofs.Math.Option.{Option, none, some}
 use Rattle.amount.specs.Choose.{◌if◌else◌}
 use Rattle.model.specs.Places.{is_some}
 use Rattle.model.specs.Record.{Block}

@@ -1,12 +1,10 @@
 -- Document 01, "The two plans": what a plan is asked with, walks, and the floor.
-use Rattle.std.specs.Prelude.{ℕ, zero, suc, Bool, true, false, not, ◌&&◌, List, [], ◌∷◌, ℤ, eqb, ltb, leb}
+use Rattle.std.specs.Prelude.{ℕ, zero, suc, Bool, true, false, ◌&&◌, List, [], ◌∷◌, ℤ, ltb, leb}
 use Rattle.std.proofs.Math.Option.{Option, none, some}
-use Rattle.amount.specs.Choose.{◌if◌else◌}
 use Rattle.amount.specs.Amounts.{Amount, readable, unreadable}
 use Rattle.model.specs.Lists.{elem, only, find}
-use Rattle.model.specs.Record.{Header}
 use Rattle.model.specs.Holding.{Cell, free, held, Holdings, is_canonical, index_of, hash_of}
-use Rattle.model.specs.Standing.{Spine, winner, canonical, Value, unlinked, linked, Values, parent, meets_target}
+use Rattle.model.specs.Standing.{Values, parent, meets_target}
 use Rattle.model.specs.Comparing.{covers}
 
 -- the tree as the last sync left it, the floor if one is given, blocks per epoch, and the clock: one time for a whole plan

@@ -1,5 +1,7 @@
 // The places to be worked out by a sync (document 01, "Standing in the tree"): a contest by turn, which is the index of a live block and 0 for any
 // other, then by hash.
+#![tactic(auto)]
+
 ghost use Rattle.std.specs.Prelude.{◌&&◌, ◌||◌, not, List, ◌≡◌, ℕ, ◌<◌, eqb};
 ghost use Rattle.std.proofs.Math.Option.{some};
 ghost use Rattle.journal.specs.Changes.{changes_of};

@@ -3,40 +3,35 @@ use mathlib.Core.Path.{◌≡◌, refl, sym, ap, ◌∙◌, subst}
 use mathlib.Core.Bool.{Bool, true, false, cond}
 use mathlib.Core.List.{List}
 use mathlib.Core.Logic.{◌⊎◌, inl, inr, ⊎_elim}
-use mathlib.Core.Option.{Option, none, some}
-use Prim.Native.Nat.{ℕ, zero, suc, ◌+◌, ◌*◌, ◌≤◌, ◌<◌}
+use mathlib.Core.Option.{none, some}
+use Prim.Native.Nat.{ℕ, ◌+◌, ◌*◌, ◌≤◌, ◌<◌}
 use native.Mathlib.Decide.{ℕ_discrete}
 use native.Mathlib.Omega.{arith}
 use lib.ListN.{length}
-use lib.Dec.{eqb, ltb}
-use Rattle.amount.specs.Choose.{◌if◌else◌}
 use Rattle.model.specs.Record as model
-use Rattle.model.specs.Places.{first}
-use Rattle.model.specs.Holding.{store_of, Cell, free, held, Held, new_room, set_copy, is_free, is_held, is_live, is_canonical, kept, place_of, free_place}
-use Rattle.model.specs.Numbers.{State}
+use Rattle.model.specs.Holding.{store_of, Cell, free, held, new_room, is_free, is_held, is_live, is_canonical, kept, place_of, free_place}
 use Rattle.model.proofs.Tools.{no_both, first_some}
 use Rattle.model.proofs.Sums.{count_below}
 use Rattle.block.specs.Records.{header_means, copy_means}
 use Rattle.block.specs.declared.Header.{Header}
 use Rattle.block.specs.declared.Copy.{Copy}
 use Rattle.memory.specs.Words.{word}
-use Rattle.memory.specs.Layout.{row, by_hash, by_prev, nodes, vacant_at, ring, Laid}
+use Rattle.memory.specs.Layout.{row, by_hash, by_prev, nodes, vacant_at, Laid}
 use Rattle.memory.proofs.WordLaws.{seg_same}
 use Rattle.rows.specs.Rows.{header_at, held_at, cell_at}
 use Rattle.index.specs.Index.{Keyed}
 use Rattle.index.specs.Keys.{key_at}
-use Rattle.index.specs.Writes.{Linked}
 use Rattle.index.proofs.IndexLaws.{keyed_frame, keyed_insert}
 use Rattle.contest.specs.Tree.{WF}
 use Rattle.contest.specs.Contests as contest
 use Rattle.contest.proofs.Uses.{still, again, same_free, same_free_but}
 use Rattle.roster.proofs.RosterLaws.{roster_frame, roster_same}
 use Rattle.state.specs.View.{cells_of, view_at}
-use Rattle.state.specs.Sound.{Used, hash_at, SoundAt, is_listed}
-use Rattle.state.specs.Moves.{Apart, Stands, Moves, with_cell}
+use Rattle.state.specs.Sound.{Used, hash_at, SoundAt}
+use Rattle.state.specs.Moves.{Apart, Stands, with_cell}
 use Rattle.state.proofs.ViewLaws.{CellWords, Seen, held_eq, header_same, copy_same}
 use Rattle.state.proofs.SoundLaws.{laid_same, journaled_same}
-use Rattle.state.proofs.FindLaws.{used_is, free_is, cell_used, used_cell, none_place}
+use Rattle.state.proofs.FindLaws.{free_is, used_cell, none_place}
 use Rattle.state.proofs.RowSteps.{Counted, Listing, row_view, row_effective, row_live, row_canonical, row_vacant}
 use Rattle.places.specs.Status.{held_by, live_by, canonical_by, Says, Tallied}
 use Rattle.places.specs.Admits.{Fills, Joins, Admits}

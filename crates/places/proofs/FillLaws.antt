@@ -1,20 +1,17 @@
 -- A row filled with a record, and a place that joins the indexes.
-use mathlib.Core.Path.{◌≡◌, refl, sym, ap, ◌∙◌}
-use mathlib.Core.Bool.{Bool, true, false}
+use mathlib.Core.Path.{◌≡◌, ap, ◌∙◌}
 use mathlib.Core.List.{List}
-use mathlib.Core.Option.{Option, none, some}
-use Prim.Native.Nat.{ℕ, ◌+◌, ◌*◌, ◌≤◌, ◌<◌}
+use mathlib.Core.Option.{some}
+use Prim.Native.Nat.{ℕ, ◌+◌, ◌*◌, ◌≤◌}
 use native.Mathlib.Omega.{arith}
-use lib.ListN.{length}
-use Rattle.model.specs.Record as model
-use Rattle.model.specs.Holding.{store_of, Held, held, free, new_room, set_copy, kept, answer_of, for_now}
+use Rattle.model.specs.Holding.{store_of, held, free, new_room, set_copy, kept}
 use Rattle.block.specs.Records.{header_means, copy_means}
 use Rattle.block.specs.declared.Header.{Header}
 use Rattle.block.specs.declared.Copy.{Copy}
 use Rattle.memory.specs.Words.{word}
 use Rattle.memory.specs.Layout.{row, Laid}
 use Rattle.index.specs.Writes.{Linked}
-use Rattle.rows.specs.Rows.{header_at, copy_at, held_at, cell_at}
+use Rattle.rows.specs.Rows.{held_at, cell_at}
 use Rattle.rows.specs.Written.{Opened, Headed, Copied}
 use Rattle.state.proofs.ViewLaws.{held_eq, header_same, copy_same}
 use Rattle.state.proofs.SoundLaws.{laid_same}

@@ -1,19 +1,16 @@
 -- A step that writes copies of one place and lets the counts follow: what it leaves sound, and of the tree alone.
-use mathlib.Core.Path.{◌≡◌, refl, sym, ap, ◌∙◌, subst}
-use mathlib.Core.Bool.{Bool, true, false, cond}
+use mathlib.Core.Path.{◌≡◌, ap, ◌∙◌}
+use mathlib.Core.Bool.{Bool, true, cond}
 use mathlib.Core.List.{List}
-use mathlib.Core.Option.{Option, none, some}
-use Prim.Native.Nat.{ℕ, zero, suc, ◌+◌, ◌*◌, ◌≤◌, ◌<◌}
+use Prim.Native.Nat.{ℕ, ◌+◌, ◌*◌, ◌≤◌, ◌<◌}
 use native.Mathlib.Omega.{arith}
 use lib.ListN.{length}
-use lib.Dec.{eqb, ltb}
-use borrow.Author.Tests.{lt-ltb, eq-eqb}
-use Rattle.amount.specs.Choose.{◌if◌else◌}
+use borrow.Author.Tests.{eq-eqb}
 use Rattle.model.specs.Places.{count}
-use Rattle.model.specs.Holding.{Cell, free, held, is_free, is_held, is_live, is_canonical}
+use Rattle.model.specs.Holding.{Cell, held, is_held, is_live, is_canonical}
 use Rattle.model.proofs.Sums.{count_below}
 use Rattle.memory.specs.Words.{word}
-use Rattle.memory.specs.Layout.{row, by_hash, nodes, vacant_at, ring, Laid}
+use Rattle.memory.specs.Layout.{row, vacant_at, Laid}
 use Rattle.rows.specs.Rows.{held_at, cell_of, cell_at}
 use Rattle.roster.proofs.RosterLaws.{roster_frame, roster_same}
 use Rattle.state.specs.View.{cells_of, view_at}
@@ -22,7 +19,7 @@ use Rattle.state.specs.Moves.{Apart}
 use Rattle.state.proofs.ViewLaws.{CellWords, Seen, held_eq, header_same, copy_same}
 use Rattle.state.proofs.SoundLaws.{Kept, laid_same}
 use Rattle.state.proofs.FindLaws.{used_is}
-use Rattle.state.proofs.RowSteps.{count_at, Counted, Listing}
+use Rattle.state.proofs.RowSteps.{count_at, Counted}
 use Rattle.places.specs.Status.{held_by, live_by, canonical_by, Says, Tallied}
 
 -- ---- what a step that writes words 20 to 55 of row p, and the counts, leaves as it was ----

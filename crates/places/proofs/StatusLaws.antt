@@ -1,20 +1,18 @@
 -- Laws of the state word of an effective copy.
-use mathlib.Core.Path.{◌≡◌, refl, sym, ap, ◌∙◌}
-use mathlib.Core.Bool.{Bool, true, false, not, ◌&&◌}
+use mathlib.Core.Path.{◌≡◌, ap, ◌∙◌}
+use mathlib.Core.Bool.{Bool, true, false}
 use mathlib.Core.List.{List}
-use mathlib.Core.Option.{Option, none, some}
-use Prim.Native.Nat.{ℕ, ◌+◌, ◌-◌, ◌≤◌, ◌<◌}
+use Prim.Native.Nat.{ℕ, ◌+◌, ◌-◌, ◌≤◌}
 use native.Mathlib.Omega.{arith}
 use lib.ListN.{length}
 use lib.Dec.{eqb}
 use Rattle.model.specs.Places.{is_some}
-use Rattle.model.specs.Record.{Copy}
-use Rattle.model.specs.Holding.{held, is_held, is_live, is_canonical, effective, copy_is_live, copy_is_canonical}
+use Rattle.model.specs.Holding.{is_held, is_live, is_canonical, copy_is_live, copy_is_canonical}
 use Rattle.model.proofs.Tools.{by_bool}
-use Rattle.block.specs.Words.{copy_of, is_orphaned}
-use Rattle.memory.specs.Words.{word, Stored, Only}
+use Rattle.block.specs.Words.{copy_of}
+use Rattle.memory.specs.Words.{word, Stored}
 use Rattle.memory.proofs.WordLaws.{stored_same, stored_other, stored_long}
-use Rattle.rows.specs.Rows.{copy_at, held_at}
+use Rattle.rows.specs.Rows.{copy_at}
 use Rattle.rows.specs.Written.{Stands}
 use Rattle.places.specs.Status.{held_by, live_by, canonical_by, Says, Moved, Tallied}
 

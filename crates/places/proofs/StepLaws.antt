@@ -6,26 +6,24 @@ use mathlib.Core.Option.{Option, none, some}
 use Prim.Native.Nat.{ℕ, zero, suc, ◌+◌, ◌*◌, ◌≤◌, ◌<◌}
 use native.Mathlib.Omega.{arith}
 use lib.ListN.{length}
-use lib.Dec.{eqb, ltb}
+use lib.Dec.{eqb}
 use borrow.Author.Tests.{eqb-true, eqb-false}
-use Rattle.amount.specs.Choose.{◌if◌else◌}
 use Rattle.model.specs.Record as model
 use Rattle.model.specs.Places.{is_some, or_else}
-use Rattle.model.specs.Holding.{Store, active, forks, canon, store_of, Cell, free, held, Held, set_copy, set_answer, effective, is_free, is_held, is_live, is_canonical, kept, dropped, answered, answer_of}
-use Rattle.model.specs.Numbers.{State}
+use Rattle.model.specs.Holding.{Store, active, forks, canon, store_of, Cell, held, Held, set_copy, set_answer, effective, is_free, is_held, is_live, is_canonical, kept, dropped, answered, answer_of}
 use Rattle.model.proofs.Tools.{by_bool, no_both}
 use Rattle.block.specs.Records.{copy_means}
 use Rattle.block.specs.declared.Copy.{Copy}
 use Rattle.memory.specs.Words.{word, Stored}
 use Rattle.memory.specs.Layout.{row, vacant_at, Laid}
 use Rattle.memory.proofs.WordLaws.{stored_same, stored_other, stored_long}
-use Rattle.rows.specs.Rows.{header_at, copy_at, held_at, cell_of, cell_at}
+use Rattle.rows.specs.Rows.{header_at, copy_at, held_at, cell_at}
 use Rattle.rows.specs.Written.{Copied, Dropped}
 use Rattle.roster.specs.Writes.{Added}
 use Rattle.roster.proofs.RosterLaws.{roster_frame, roster_same}
 use Rattle.state.specs.View.{cells_of, view_at}
-use Rattle.state.specs.Sound.{Used, SoundAt, Roster, is_listed}
-use Rattle.state.specs.Moves.{Apart, Stands, Moves, with_cell}
+use Rattle.state.specs.Sound.{Used, SoundAt, is_listed}
+use Rattle.state.specs.Moves.{Apart, Stands, with_cell}
 use Rattle.state.proofs.ViewLaws.{CellWords, Seen, held_eq, header_same, copy_same, cell_same}
 use Rattle.state.proofs.SoundLaws.{Kept, laid_same}
 use Rattle.state.proofs.FindLaws.{cell_used, used_is}

@@ -2,7 +2,6 @@
 use Rattle.std.specs.Prelude.{false, List, ◌≡◌, ℕ, ◌≤◌}
 use Rattle.model.specs.Record as model
 use Rattle.model.specs.Holding.{Cell, is_free, kept, dropped, answered, store_of, answer_of}
-use Rattle.model.specs.Numbers.{State}
 use Rattle.state.specs.View.{view_at}
 use Rattle.state.specs.Moves.{Moves, with_cell}
 

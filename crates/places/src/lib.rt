@@ -1,5 +1,7 @@
 // Steps at one place of the lent memory: a copy goes into its store or out of it, an answer stands (document 01, "Holding blocks"). Each keeps
 // the counts and the roster of places that the next sync may free in step.
+#![tactic(auto)]
+
 ghost use Rattle.std.specs.Prelude.{◌≡◌, ℕ, ◌+◌, ◌*◌, ◌≤◌, ◌<◌, length};
 ghost use Rattle.block.specs.Records.{copy_means, header_means};
 ghost use Rattle.model.specs.Holding.{is_canonical, is_live};

@@ -1,28 +1,27 @@
 -- A plan as a call: the memory is whole again and stands for the same state, and what is answered is the model's.
 use mathlib.Core.Path.{◌≡◌, refl, sym, ap, subst, ◌∙◌}
-use mathlib.Core.Bool.{Bool, true, false, not}
+use mathlib.Core.Bool.{true, not}
 use mathlib.Core.List.{List, [], ◌∷◌}
 use mathlib.Core.Option.{Option, none, some}
 use Prim.Native.Nat.{ℕ, zero, suc, ◌+◌, ◌≤◌, ◌<◌}
 use native.Mathlib.Omega.{arith}
-use lib.Dec.{eqb, ltb, leb}
+use lib.Dec.{eqb, ltb}
 use lib.IntN.{ℤ}
 use lib.ListN.{length, take}
 use borrow.Author.Tests.{eq-eqb, ne_eqb, eqb-true, eqb-false, lt-ltb, le-ltb, le-leb}
 use Rattle.amount.specs.Choose.{◌if◌else◌}
 use Rattle.model.specs.Holding.{Holdings, is_live, live_count}
 use Rattle.model.specs.Numbers.{State}
-use Rattle.model.specs.Plans.{PlanCall, PlanReply, scanned, applied, asked, plan_of, hand_back, plan_reply, plan_lent, ask_plan}
+use Rattle.model.specs.Plans.{PlanCall, applied, asked, plan_of, hand_back, plan_reply, plan_lent, ask_plan}
 use Rattle.model.specs.Record.{Reason}
 use Rattle.model.specs.Runs.{Run}
 use Rattle.model.specs.Walks.{Asked}
-use Rattle.model.specs.Lists.{those, each, sorted}
-use Rattle.model.specs.Places.{count}
+use Rattle.model.specs.Lists.{those}
 use Rattle.model.specs.Writes as model
-use Rattle.model.proofs.Tools.{by_bool, no_none, no_both, not_is, not_is_true}
+use Rattle.model.proofs.Tools.{by_bool, no_none, not_is, not_is_true}
 use Rattle.model.proofs.ListLaws.{count_mono}
 use Rattle.model.proofs.Entries.{those-length, sorted-length, each-length}
-use Rattle.block.specs.Answers.{done_number, planned_number, planned_reply}
+use Rattle.block.specs.Answers.{done_number, planned_reply}
 use Rattle.block.specs.Records.{reason_means}
 use Rattle.block.specs.declared.Done.{Done}
 use Rattle.block.specs.declared.Done.TheVariants.{Done as Accepted, Refused as DoneRefused}
@@ -33,16 +32,14 @@ use Rattle.block.specs.declared.Refusal.TheVariants.{Room, Stale, List as Short}
 use Rattle.block.specs.declared.Planned.{Planned}
 use Rattle.block.specs.declared.Planned.TheVariants.{Scan, Apply, Refused}
 use Rattle.memory.specs.Words.{word}
-use Rattle.memory.specs.Layout.{row, nodes, leaves_at, Laid}
+use Rattle.memory.specs.Layout.{nodes, Laid}
 use Rattle.state.specs.View.{view_at}
 use Rattle.state.specs.Sound.{Used, SoundAt}
 use Rattle.state.proofs.TreeSteps.{tree_sound, tree_used}
-use Rattle.pending.specs.Pending.{PendOnly}
 use Rattle.kin.specs.Kin.{up_at}
 use Rattle.relink.specs.Treed.{Listless, Treed, TreedWords}
 use Rattle.relink.proofs.TreedLaws.{treed_frame, parent_used, listless_same}
 use Rattle.asking.specs.Whole.{WholeAt}
-use Rattle.walks.specs.Asking.{Asks}
 use Rattle.writing.specs.Coded.{Coded}
 use Rattle.writing.specs.Meant.{Meant}
 use Rattle.writing.specs.Planned.{writes_of}

@@ -1,15 +1,14 @@
 -- The entries go into a list of words: at each turn the next one is put at the next place.
-use mathlib.Core.Path.{◌≡◌, refl, sym, ap, subst, ◌∙◌}
+use mathlib.Core.Path.{◌≡◌, refl, sym, subst, ◌∙◌}
 use mathlib.Core.List.{List}
 use Prim.Native.Nat.{ℕ, ◌+◌, ◌*◌, ◌≤◌, ◌<◌}
 use native.Mathlib.Omega.{arith}
 use lib.IntN.{ℤ}
 use lib.ListN.{length}
 use Rattle.model.specs.Record.{Reason}
-use Rattle.memory.specs.Words.{word}
 use Rattle.memory.specs.Layout.{Laid}
 use Rattle.entries.specs.declared.Entry.{Entry}
-use Rattle.entries.specs.Handing.{Takes, HandsOut}
+use Rattle.entries.specs.Handing.{Takes}
 use Rattle.entries.proofs.HandLaws.{Handing, handing_start, handing_more, handing_full, handing_short}
 use Rattle.plans.specs.Lent.{entry_from, places_in, entries_in, Put, FirstOnly, WritesOut}
 use Rattle.plans.proofs.PutLaws.{put_set, tabled-length}

@@ -1,11 +1,10 @@
 -- An entry is put into a list of words, and the list as entries has it at its place.
-use mathlib.Core.Path.{◌≡◌, refl, sym, ap, ◌∙◌}
-use mathlib.Core.List.{List, [], ◌∷◌}
+use mathlib.Core.Path.{◌≡◌, refl, ap, ◌∙◌}
+use mathlib.Core.List.{List}
 use Prim.Native.Nat.{ℕ, zero, suc, ◌+◌, ◌*◌, ◌/◌, ◌≤◌, ◌<◌}
 use native.Mathlib.Omega.{arith}
 use lib.ListN.{length, set}
-use Rattle.block.specs.Words.{quad}
-use Rattle.memory.specs.Words.{word, seg, Four}
+use Rattle.memory.specs.Words.{word, Four}
 use Rattle.entries.specs.declared.Entry.{Entry}
 use Rattle.plans.specs.Lent.{entry_from, tabled, places_in, entries_in, Put}
 

@@ -1,5 +1,7 @@
 // The two plans as calls (document 01, "The two plans", "Numbers given back"): 12, then 13; then the plan's core, whatever the list is made of;
 // and its entries handed back in a list of words, sixteen for each entry.
+#![tactic(auto)]
+
 ghost use Rattle.std.specs.Prelude.{◌≡◌, ◌+◌, ◌≤◌, ◌<◌, length};
 ghost use Rattle.block.specs.Records.{reason_means};
 ghost use Rattle.entries.specs.Handing.{Takes};
@@ -64,7 +66,7 @@ fn write_out(mem: &mut [u64], n: usize, time: Time, reason: Reason, list: &mut [
 // ---- a call ----
 
 // What a plan came to before its entries go out: its answer, where there are none; else the room, `changed` and the comparison's reason.
-#[derive(Drop)]
+#[derive(Clone, Copy)]
 pub enum Begun {
     Answered(Planned),
     Writes(usize, u64, Reason),

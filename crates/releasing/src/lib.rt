@@ -1,4 +1,6 @@
 // Room is freed at the end of a sync (document 01, "Holding blocks"): a hash that no store holds has none any more.
+#![tactic(auto)]
+
 ghost use Rattle.std.specs.Prelude.{◌<◌};
 ghost use Rattle.memory.specs.Layout.{Laid};
 ghost use Rattle.releasing.specs.Releases.{Releases};

@@ -1,30 +1,26 @@
 -- What is pending when a sync begins.
-use mathlib.Core.Path.{◌≡◌, refl, sym, ap, ◌∙◌, subst, fun_ext}
-use mathlib.Core.Bool.{Bool, true, false, ◌||◌}
+use mathlib.Core.Path.{◌≡◌, refl, sym, ap, ◌∙◌}
+use mathlib.Core.Bool.{false, ◌||◌}
 use mathlib.Core.List.{List, []}
-use mathlib.Core.Option.{Option, none, some}
+use mathlib.Core.Option.{none, some}
 use Prim.{tt}
-use Prim.Native.Nat.{ℕ, ◌+◌, ◌*◌, ◌≤◌, ◌<◌}
-use native.Mathlib.Omega.{arith}
-use lib.Dec.{eqb}
-use borrow.Author.Tests.{eq-eqb, ne_eqb}
-use Rattle.amount.specs.Choose.{◌if◌else◌}
+use Prim.Native.Nat.{ℕ}
+use borrow.Author.Tests.{ne_eqb}
 use Rattle.model.specs.Holding.{Cell, is_live, changes_since}
 use Rattle.model.specs.Standing.{Values, unlinked}
-use Rattle.model.specs.Relink.{Pending, changed_in, settled, relinked}
+use Rattle.model.specs.Relink.{changed_in, settled, relinked}
 use Rattle.model.specs.Numbers.{State, changes}
-use Rattle.memory.specs.Words.{word, seg}
+use Rattle.memory.specs.Words.{word}
 use Rattle.memory.specs.Layout.{Laid}
 use Rattle.journal.specs.declared.Had.TheVariants.{None, Count}
 use Rattle.journal.specs.Changes.{changes_of, had_of}
 use Rattle.journal.proofs.ChangesLaws.{counted_list, nothing_had}
 use Rattle.state.specs.View.{cells_of, values_of, synced_of, view_at}
 use Rattle.state.specs.Sound.{SoundAt}
-use Rattle.state.proofs.TreeSteps.{tree_then, tree_cells, tree_sound, tree_laid}
-use Rattle.pending.specs.Pending.{Pends, Turns}
+use Rattle.state.proofs.TreeSteps.{tree_then, tree_cells, tree_sound}
+use Rattle.pending.specs.Pending.{Turns}
 use Rattle.pending.proofs.PendLaws.{pend_tree, pend_view, pends_same}
-use Rattle.relink.specs.Treed.{Treed}
-use Rattle.relink.specs.Gathers.{Resets, Rebuilds, Gathered, Gathers}
+use Rattle.relink.specs.Gathers.{Resets, Rebuilds, Gathers}
 use Rattle.relink.proofs.TreedLaws.{treed_frame, pend_words}
 use Rattle.relink.proofs.WorkLaws.{values_tree, values_laid}
 use Rattle.relink.proofs.TurnLaws.{values_pends}

@@ -2,25 +2,22 @@
 use mathlib.Core.Path.{◌≡◌, refl, sym, ap, ◌∙◌}
 use mathlib.Core.Bool.{Bool, true, false, not}
 use mathlib.Core.List.{List}
-use Prim.Native.Nat.{ℕ, ◌+◌, ◌*◌, ◌≤◌, ◌<◌}
+use Prim.Native.Nat.{ℕ, ◌+◌, ◌≤◌, ◌<◌}
 use native.Mathlib.Omega.{arith}
-use lib.ListN.{length}
 use Rattle.model.specs.Standing as model
 use Rattle.model.specs.Relink.{same}
 use Rattle.model.proofs.Tools.{no_both}
 use Rattle.model.proofs.Turn.{same_true}
-use Rattle.memory.specs.Words.{word, seg}
+use Rattle.memory.specs.Words.{seg}
 use Rattle.memory.specs.Layout.{row, nodes, Laid}
 use Rattle.memory.proofs.WordLaws.{seg_same}
-use Rattle.contest.specs.Tree.{WF}
-use Rattle.contest.specs.Contests as contest
 use Rattle.contest.specs.Contests.{Updated}
 use Rattle.contest.proofs.Uses.{SameBut, again}
 use Rattle.rows.specs.Rows.{value_of}
 use Rattle.state.proofs.SoundLaws.{laid_same}
 use Rattle.values.specs.Values.{value_means, Written}
 use Rattle.values.specs.declared.Value.{Value}
-use Rattle.kin.specs.Relinked.{KinOnly, Relinked}
+use Rattle.kin.specs.Relinked.{Relinked}
 use Rattle.relink.specs.Turned.{PutWinner, PutCanonical}
 
 -- what a comparison with the value read tells

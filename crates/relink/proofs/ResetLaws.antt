@@ -1,29 +1,27 @@
 -- No values: rows are wiped, the roster of leaves and the two rank contests are empty.
-use mathlib.Core.Path.{◌≡◌, refl, sym, ap, ◌∙◌, fun_ext}
-use mathlib.Core.Bool.{Bool, true, false, ◌&&◌}
+use mathlib.Core.Path.{◌≡◌, refl, sym, ◌∙◌, fun_ext}
+use mathlib.Core.Bool.{true, false, ◌&&◌}
 use mathlib.Core.List.{List}
 use Prim.Native.Nat.{ℕ, ◌+◌, ◌*◌, ◌≤◌, ◌<◌}
 use native.Mathlib.Omega.{arith}
 use lib.Dec.{eqb, ltb}
-use lib.ListN.{length}
-use borrow.Author.Tests.{eq-eqb, ltb-true}
-use Rattle.amount.specs.Choose.{◌if◌else◌}
+use borrow.Author.Tests.{ltb-true}
 use Rattle.model.specs.Standing.{Spine, winner, canonical, unlinked}
 use Rattle.model.proofs.Tools.{by_bool, no_both}
 use Rattle.model.proofs.Sums.{sum_none}
 use Rattle.memory.specs.Words.{word, seg, Stored}
-use Rattle.memory.specs.Layout.{row, by_hash, nodes, leaves_at, vacant_at, Laid}
-use Rattle.memory.proofs.WordLaws.{stored_same, stored_other, stored_long}
+use Rattle.memory.specs.Layout.{row, nodes, leaves_at, Laid}
+use Rattle.memory.proofs.WordLaws.{stored_other, stored_long}
 use Rattle.contest.specs.Keys.{enters}
 use Rattle.contest.specs.Contests.{Cleared}
-use Rattle.contest.proofs.KeyLaws.{enters_no, enters_kept}
+use Rattle.contest.proofs.KeyLaws.{enters_no}
 use Rattle.contest.proofs.Uses.{Same, still}
 use Rattle.roster.proofs.RosterLaws.{roster_frame, roster_same, clear_well, clear_out}
 use Rattle.rows.specs.Rows as rows
 use Rattle.rows.specs.Rows.{value_of}
 use Rattle.state.specs.View.{values_of}
 use Rattle.state.proofs.SoundLaws.{laid_same}
-use Rattle.kin.specs.Kin.{linked_at, up_at, kids_at}
+use Rattle.kin.specs.Kin.{linked_at, up_at}
 use Rattle.relink.specs.Treed.{Treed}
 use Rattle.relink.specs.Turned.{ValueOnly}
 use Rattle.relink.specs.Gathers.{Wiped, Resets}

@@ -1,9 +1,9 @@
 -- All turns: what is left to do comes to the same, and takes fewer turns than are left.
 use mathlib.Core.Path.{◌≡◌, refl, sym, ap, ◌∙◌, subst}
-use mathlib.Core.Bool.{Bool, true, false}
+use mathlib.Core.Bool.{true, false}
 use mathlib.Core.List.{List}
 use mathlib.Core.Option.{Option, none, some}
-use Prim.Native.Nat.{ℕ, suc, ◌+◌, ◌*◌, ◌-◌, ◌≤◌, ◌<◌}
+use Prim.Native.Nat.{ℕ, ◌+◌, ◌*◌, ◌-◌, ◌≤◌, ◌<◌}
 use native.Mathlib.Omega.{arith}
 use Rattle.model.specs.Holding.{Holdings}
 use Rattle.model.specs.Standing.{Values}
@@ -12,7 +12,7 @@ use Rattle.model.proofs.Tools.{by_option, no_both, pick_some, pick-none}
 use Rattle.model.proofs.Settled.{settled-none, settled-some}
 use Rattle.model.proofs.Budget.{budget, budget_falls, budget_start}
 use Rattle.memory.specs.Words.{word}
-use Rattle.memory.specs.Layout.{row, Laid}
+use Rattle.memory.specs.Layout.{row}
 use Rattle.contest.proofs.KeyLaws.{enters_no}
 use Rattle.state.specs.View.{values_of, view_at}
 use Rattle.state.specs.Sound.{SoundAt, placed}

@@ -4,27 +4,23 @@ use mathlib.Core.Bool.{Bool, true, false, ◌&&◌}
 use mathlib.Core.List.{List}
 use Prim.Native.Nat.{ℕ, zero, suc, ◌+◌, ◌*◌, ◌-◌, ◌≤◌, ◌<◌}
 use native.Mathlib.Omega.{arith}
-use lib.Dec.{eqb, ltb}
-use lib.ListN.{length}
-use Rattle.model.specs.Places.{count}
+use lib.Dec.{eqb}
 use Rattle.model.specs.Record.{Header}
 use Rattle.model.specs.Holding.{Cell, free, held, is_free, index_of}
 use Rattle.model.specs.Standing.{names}
-use Rattle.model.proofs.Tools.{by_bool, no_both}
+use Rattle.model.proofs.Tools.{no_both}
 use Rattle.memory.specs.Words.{word}
 use Rattle.memory.specs.Layout.{row, nodes, leaves_at, vacant_at, Laid}
-use Rattle.contest.specs.Tree.{WF}
 use Rattle.contest.specs.Keys.{enters, mark}
-use Rattle.contest.specs.Contests as contest
-use Rattle.contest.proofs.KeyLaws.{Keys, enters_kept}
+use Rattle.contest.proofs.KeyLaws.{enters_kept}
 use Rattle.contest.proofs.Uses.{Same, still}
 use Rattle.roster.proofs.RosterLaws.{roster_same, roster_frame}
-use Rattle.rows.specs.Rows.{header_at, held_at}
+use Rattle.rows.specs.Rows.{header_at}
 use Rattle.state.specs.View.{cells_of}
 use Rattle.state.specs.Sound.{Used}
 use Rattle.state.proofs.ViewLaws.{header_same}
 use Rattle.state.proofs.FindLaws.{used_is, cell_used}
-use Rattle.kin.specs.Kin.{linked_at, up_at, kids_at, is_listed, leaf_at, Leaves, Kin}
+use Rattle.kin.specs.Kin.{linked_at, up_at, kids_at, Kin}
 use Rattle.pending.specs.Pending.{PendOnly}
 use Rattle.kin.proofs.RelinkLaws.{count_agree}
 use Rattle.relink.specs.Treed.{Above, Listless, Treed, TreedWords}

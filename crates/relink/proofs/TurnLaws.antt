@@ -1,25 +1,24 @@
 -- A turn: the place is pending no more, is worked out, and if a value changed those that follow it are pending.
-use mathlib.Core.Path.{◌≡◌, refl, sym, ap, ◌∙◌, subst}
+use mathlib.Core.Path.{◌≡◌, refl, sym, ap, ◌∙◌}
 use mathlib.Core.Bool.{Bool, true, false, not, ◌&&◌, ◌||◌}
 use mathlib.Core.List.{List}
 use Prim.{tt}
-use Prim.Native.Nat.{ℕ, ◌+◌, ◌*◌, ◌≤◌, ◌<◌}
+use Prim.Native.Nat.{ℕ, ◌+◌, ◌<◌}
 use native.Mathlib.Omega.{arith}
 use lib.Dec.{eqb}
 use Rattle.model.specs.Holding.{Cell, Holdings}
 use Rattle.model.specs.Standing.{Values}
 use Rattle.model.specs.Relink.{Pending, moves, worked, follows, after}
 use Rattle.model.specs.Numbers.{State}
-use Rattle.memory.specs.Words.{word}
-use Rattle.memory.specs.Layout.{row, nodes, Laid}
+use Rattle.memory.specs.Layout.{nodes, Laid}
 use Rattle.state.specs.View.{cells_of, values_of, view_at}
 use Rattle.state.specs.Sound.{Used, SoundAt}
 use Rattle.state.specs.TreeOnly.{TreeOnly}
-use Rattle.state.proofs.TreeSteps.{tree_then, tree_cells, tree_used, tree_sound, tree_laid, tree_holdings}
-use Rattle.pending.specs.Pending.{Pends, PendOnly, Turns}
+use Rattle.state.proofs.TreeSteps.{tree_then, tree_cells, tree_used, tree_sound, tree_laid}
+use Rattle.pending.specs.Pending.{Pends, Turns}
 use Rattle.pending.proofs.PendLaws.{pend_tree, pend_view, pends_same, pends_kept}
 use Rattle.relink.specs.Treed.{Treed}
-use Rattle.relink.specs.Turned.{ValueOnly, Worked, WorksOut, AfterTurn, Turned}
+use Rattle.relink.specs.Turned.{ValueOnly, Worked, WorksOut, Turned}
 use Rattle.relink.proofs.TreedLaws.{treed_frame, pend_words}
 use Rattle.relink.proofs.WorkLaws.{values_tree}
 

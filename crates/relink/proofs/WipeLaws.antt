@@ -1,15 +1,14 @@
 -- The rows below p have been wiped.
-use mathlib.Core.Path.{◌≡◌, refl, sym, ap, ◌∙◌}
-use mathlib.Core.Bool.{Bool, true, false}
+use mathlib.Core.Path.{◌≡◌, refl, ◌∙◌}
 use mathlib.Core.List.{List}
-use Prim.Native.Nat.{ℕ, ◌+◌, ◌*◌, ◌≤◌, ◌<◌}
+use Prim.Native.Nat.{ℕ, ◌+◌, ◌≤◌, ◌<◌}
 use native.Mathlib.Omega.{arith}
 use lib.Dec.{eqb}
 use lib.ListN.{length}
 use borrow.Author.Tests.{eqb-true, eqb-false}
 use Rattle.model.proofs.Tools.{by_bool}
 use Rattle.memory.specs.Words.{word, Stored}
-use Rattle.memory.specs.Layout.{row, Laid}
+use Rattle.memory.specs.Layout.{row}
 use Rattle.memory.proofs.WordLaws.{stored_same, stored_other, stored_long}
 use Rattle.relink.specs.Gathers.{Wiped}
 

@@ -1,29 +1,23 @@
 -- A place is worked out: both values are put, and what the tree keeps follows.
 use mathlib.Core.Path.{◌≡◌, refl, sym, ap, ◌∙◌, subst, fun_ext}
-use mathlib.Core.Bool.{Bool, true, false, not, ◌&&◌, ◌||◌}
+use mathlib.Core.Bool.{Bool, true, false, not, ◌||◌}
 use mathlib.Core.List.{List}
-use mathlib.Core.Option.{Option, none, some}
-use Prim.Native.Nat.{ℕ, zero, suc, ◌+◌, ◌*◌, ◌-◌, ◌≤◌, ◌<◌}
+use Prim.Native.Nat.{ℕ, ◌+◌, ◌≤◌, ◌<◌}
 use native.Mathlib.Omega.{arith}
-use lib.Dec.{eqb, ltb}
-use lib.ListN.{length}
-use borrow.Author.Tests.{eqb-true, eqb-false, eq-eqb, lt-ltb}
+use lib.Dec.{eqb}
+use borrow.Author.Tests.{eqb-true, eqb-false, lt-ltb}
 use Rattle.amount.specs.Choose.{◌if◌else◌}
 use Rattle.amount.specs.Amounts.{Amount, readable, unreadable}
-use Rattle.model.specs.Places.{put_at}
-use Rattle.model.specs.Record.{Header}
-use Rattle.model.specs.Holding.{Cell, free, held, Held, Holdings, index_of, is_free}
-use Rattle.model.specs.Standing.{Spine, winner, canonical, Value as Worth, unlinked, linked, is_linked, Values, standing, on_actual, may, names, parent, value_at}
+use Rattle.model.specs.Holding.{Cell, free, held, Holdings, index_of}
+use Rattle.model.specs.Standing.{Spine, winner, canonical, Value as Worth, unlinked, is_linked, Values, standing, on_actual, may, names, parent}
 use Rattle.model.specs.Relink.{same, work_out, moves, worked}
 use Rattle.model.proofs.Tools.{by_bool, no_both}
 use Rattle.model.proofs.Turn.{parent-some}
 use Rattle.memory.specs.Words.{word, seg}
-use Rattle.memory.specs.Layout.{row, by_hash, nodes, leaves_at, vacant_at, Laid}
+use Rattle.memory.specs.Layout.{row, nodes, leaves_at, vacant_at, Laid}
 use Rattle.memory.proofs.WordLaws.{seg_same}
-use Rattle.contest.specs.Tree.{WF}
-use Rattle.contest.specs.Keys.{enters, mark}
-use Rattle.contest.specs.Contests as contest
-use Rattle.contest.proofs.KeyLaws.{Keys, enters_kept, enters_yes, enters_no, entered}
+use Rattle.contest.specs.Keys.{enters}
+use Rattle.contest.proofs.KeyLaws.{enters_kept}
 use Rattle.contest.proofs.Uses.{Same, still}
 use Rattle.rows.specs.Rows as rows
 use Rattle.rows.specs.Rows.{value_of}
@@ -34,12 +28,12 @@ use Rattle.state.proofs.FindLaws.{placed_in, placed_out}
 use Rattle.state.proofs.SoundLaws.{laid_same}
 use Rattle.state.proofs.ViewLaws.{below_same}
 use Rattle.state.proofs.TreeSteps.{tree_cells, tree_used}
-use Rattle.values.specs.Values.{value_means, spine_of}
+use Rattle.values.specs.Values.{value_means}
 use Rattle.values.specs.declared.Value.{Value}
-use Rattle.kin.specs.Kin.{linked_at, up_at, Kin}
+use Rattle.kin.specs.Kin.{linked_at, up_at}
 use Rattle.kin.specs.Relinked.{KinOnly}
 use Rattle.relink.specs.Treed.{Above, Listless, Treed}
-use Rattle.relink.specs.Turned.{PutWinner, PutCanonical, ValueOnly, Worked, WorksOut}
+use Rattle.relink.specs.Turned.{PutWinner, PutCanonical, ValueOnly, WorksOut}
 use Rattle.relink.proofs.TreedLaws.{linked_same, up_same, kin_frame, listless_same}
 
 -- ---- frames ----

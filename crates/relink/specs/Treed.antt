@@ -1,6 +1,6 @@
 -- What a sync keeps of the tree, between calls and between its own turns (document 01, "Standing in the tree"): the contests for both bests, the
 -- linked children and leaves, and that a linked place knows the place of its parent. What is pending has a record of its own, in crate pending.
-use Rattle.std.specs.Prelude.{Bool, true, false, List, ◌≡◌, ℕ, ◌+◌, ◌≤◌, ◌<◌, length}
+use Rattle.std.specs.Prelude.{true, false, List, ◌≡◌, ℕ, ◌+◌, ◌≤◌, ◌<◌, length}
 use Rattle.model.specs.Holding.{index_of}
 use Rattle.model.specs.Standing.{names}
 use Rattle.memory.specs.Words.{word}

@@ -1,5 +1,7 @@
 // The turns of a sync (document 01, "Standing in the tree"): places are worked out by the values that stand, lowest index first, until none is
 // pending. All that the values decide, both bests, children and leaves, is kept in step inside the turn.
+#![tactic(auto)]
+
 ghost use Rattle.std.specs.Prelude.{◌+◌, ◌*◌, ◌<◌, ◌≤◌};
 ghost use Rattle.memory.specs.Layout.{Laid};
 ghost use Rattle.relink.specs.Gathers.{Gathers, Rebuilds, Resets, Wiped};

@@ -1,5 +1,7 @@
 // Dense sets of places in the lent memory: leaves, vacant places. Members stand in a row, and each place knows its position there, so that
 // a test, an addition and a removal are a few words each and a loop over the members passes over nothing else.
+#![tactic(auto)]
+
 ghost use Rattle.std.specs.Prelude.{◌+◌, ◌*◌, ◌<◌, ◌≤◌, length, ◌≡◌};
 ghost use Rattle.memory.specs.Words.{Stored};
 ghost use Rattle.roster.specs.Roster.{Lies, Member, Size, is_in};

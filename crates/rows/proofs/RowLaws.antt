@@ -1,14 +1,13 @@
 -- Laws of rows: what four words at a time read as, and which copy is effective.
-use mathlib.Core.Path.{◌≡◌, refl, sym, ap, ◌∙◌, subst}
-use mathlib.Core.Bool.{Bool, true, false}
+use mathlib.Core.Path.{◌≡◌, refl, ap, ◌∙◌}
+use mathlib.Core.Bool.{false}
 use mathlib.Core.List.{List}
-use mathlib.Core.Option.{Option, none, some}
-use Prim.Native.Nat.{ℕ, ◌+◌, ◌*◌, ◌≤◌, ◌<◌}
+use mathlib.Core.Option.{none, some}
+use Prim.Native.Nat.{ℕ, ◌+◌, ◌≤◌, ◌<◌}
 use native.Mathlib.Omega.{arith}
 use lib.ListN.{length}
 use lib.Dec.{eqb}
-use borrow.Author.Tests.{eq-eqb, ne_eqb}
-use Rattle.amount.specs.Choose.{◌if◌else◌}
+use borrow.Author.Tests.{ne_eqb}
 use Rattle.model.specs.Record as model
 use Rattle.model.specs.Holding.{effective}
 use Rattle.block.specs.Records.{header_means, copy_means}
@@ -20,9 +19,9 @@ use Rattle.block.specs.declared.Copy.{Copy}
 use Rattle.block.specs.declared.Quad.{Quad}
 use Rattle.block.proofs.TellingLaws.{tells_header, tells_copy}
 use Rattle.block.proofs.WordLaws.{header_read, copy_read}
-use Rattle.memory.specs.Words.{word, Stored, Only, seg, Four}
+use Rattle.memory.specs.Words.{word, Stored, seg, Four}
 use Rattle.memory.proofs.WordLaws.{stored_same, stored_other, stored_long, seg_same}
-use Rattle.rows.specs.Rows.{header_at, copy_at, held_at}
+use Rattle.rows.specs.Rows.{header_at, copy_at}
 use Rattle.rows.specs.Written.{Headed, Copied, Dropped, Opened, Stands}
 
 -- a group of four that later writes pass by

@@ -1,6 +1,6 @@
 -- What the words of a row read as (addresses: crates/memory/specs/Layout.antt; document 01, "Holding blocks": room keeps the header and the
 -- answer, and a copy for each store). Total: any words read as something.
-use Rattle.std.specs.Prelude.{Bool, List, ℕ, ◌+◌, ◌*◌, eqb}
+use Rattle.std.specs.Prelude.{List, ℕ, ◌+◌, eqb}
 use Rattle.std.proofs.Math.Option.{Option}
 use Rattle.amount.specs.Choose.{◌if◌else◌}
 use Rattle.amount.specs.Value.{from_words}

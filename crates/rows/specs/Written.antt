@@ -1,7 +1,6 @@
 -- What the functions of a row leave or answer.
 use Rattle.std.specs.Prelude.{List, ◌≡◌, ℕ, ◌+◌, ◌<◌, length}
-use Rattle.std.proofs.Math.Option.{Option, none, some}
-use Rattle.model.specs.Record as model
+use Rattle.std.proofs.Math.Option.{none, some}
 use Rattle.model.specs.Holding.{effective}
 use Rattle.block.specs.Records.{header_means, copy_means}
 use Rattle.block.specs.Telling.{HeaderTold, CopyTold}

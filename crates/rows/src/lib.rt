@@ -1,4 +1,6 @@
 // The row of a place: reading and writing its header and copies (document 01, "Holding blocks").
+#![tactic(auto)]
+
 ghost use Rattle.std.specs.Prelude.{◌≡◌, ℕ, ◌+◌, ◌≤◌, length};
 ghost use Rattle.block.specs.Records.{header_means, kept_means};
 ghost use Rattle.rows.specs.Rows.{header_at, copy_at};

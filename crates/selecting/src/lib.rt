@@ -1,4 +1,6 @@
 // The core of Select (document 01, "The two plans"): its changes are left as codes, by place.
+#![tactic(auto)]
+
 ghost use Rattle.std.specs.Prelude.{◌&&◌, not, true, ◌≡◌, ◌<◌, eqb};
 ghost use Rattle.std.proofs.Math.Option.{some};
 ghost use Rattle.memory.specs.Layout.{Laid};

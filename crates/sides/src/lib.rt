@@ -1,5 +1,7 @@
 // The two sides of Adopt (document 01, "The two plans"): what is gathered down a walk, and the chains that are compared. A walk goes down through parents, while an
 // extension is told from its bottom up: a block that does not pass drops what was gathered above it.
+#![tactic(auto)]
+
 ghost use Rattle.std.specs.Prelude.{not, ◌&&◌, ◌||◌, true, List, ◌≡◌, ℕ, ◌<◌};
 ghost use Rattle.amount.specs.Choose.{◌if◌else◌};
 ghost use Rattle.amount.specs.Value.{value};
@@ -20,7 +22,7 @@ use values::Value;
 
 // What is gathered of the blocks passed, bottom first: the lowest of all; and of their longest front that passes the top, the length, and whether
 // all of it meets target. A place of n is none.
-#[derive(Drop)]
+#[derive(Clone, Copy)]
 pub struct Front {
     pub bottom: usize,
     pub top: usize,
@@ -29,7 +31,7 @@ pub struct Front {
 }
 
 // The extension of a leaf: its ancestor, a number from n on where there is none, and its safe front.
-#[derive(Drop)]
+#[derive(Clone, Copy)]
 pub struct Extension {
     pub ancestor: usize,
     pub front: Front,

@@ -1,5 +1,7 @@
 // The value of one place (document 01, "Standing in the tree"): parent, meets target, linked and canonical linked. The two linked values are one
 // rule over two spines; `canonical` says which is meant.
+#![tactic(auto)]
+
 ghost use Rattle.std.specs.Prelude.{◌&&◌, ◌≡◌, suc, ◌+◌, ◌*◌, ◌<◌, eqb, ltb, leb};
 ghost use Rattle.amount.specs.Choose.{◌if◌else◌};
 ghost use Rattle.amount.specs.Value.{meant, value};

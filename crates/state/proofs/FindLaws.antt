@@ -1,25 +1,23 @@
 -- A place that the index or the contest found is the model's.
 use mathlib.Core.Path.{◌≡◌, refl, sym, ap, ◌∙◌}
-use mathlib.Core.Bool.{Bool, true, false}
+use mathlib.Core.Bool.{true, false}
 use mathlib.Core.List.{List}
-use mathlib.Core.Option.{Option, none, some}
+use mathlib.Core.Option.{none, some}
 use Prim.Native.Nat.{ℕ, ◌+◌, ◌*◌, ◌≤◌, ◌<◌, ◌%◌}
 use native.Mathlib.Omega.{arith}
 use lib.Dec.{eqb, ltb}
-use borrow.Author.Tests.{eqb-true, eqb-false, eq-eqb, ne_eqb, ltb-true, ltb-false, lt-ltb, le-ltb}
-use Rattle.amount.specs.Choose.{◌if◌else◌}
+use borrow.Author.Tests.{eqb-true, eq-eqb, ne_eqb, ltb-true, ltb-false, lt-ltb, le-ltb}
 use Rattle.model.specs.Places.{first}
-use Rattle.model.specs.Record.{Header}
-use Rattle.model.specs.Holding.{Cell, free, held, is_free, has_room, place_of, free_place}
+use Rattle.model.specs.Holding.{free, held, is_free, has_room, place_of, free_place}
 use Rattle.model.proofs.Tools.{by_bool, by_option, no_both, no_none, first_some, first_only, first_nowhere, first_lowest}
 use Rattle.hash.specs.Hashes.{limb, join}
 use Rattle.hash.proofs.HashLaws.{Words}
-use Rattle.block.specs.Words.{quad, hash_of, header_of}
+use Rattle.block.specs.Words.{quad, header_of}
 use Rattle.memory.specs.Words.{word, seg}
-use Rattle.memory.specs.Layout.{row, by_hash, Laid}
+use Rattle.memory.specs.Layout.{row, by_hash}
 use Rattle.memory.proofs.HashWords.{quad_hash, seg_hash}
-use Rattle.rows.specs.Rows.{header_at, held_at, cell_of, cell_at}
-use Rattle.index.specs.Keys.{key_at, bucket_of}
+use Rattle.rows.specs.Rows.{header_at, held_at, cell_of}
+use Rattle.index.specs.Keys.{key_at}
 use Rattle.index.specs.Seeks.{Seeks}
 use Rattle.index.proofs.Walks.{found, not_found}
 use Rattle.contest.specs.Tree.{Champion}

@@ -1,6 +1,6 @@
 -- A step that writes words 2 to 10 of the head and, past the places, the journal: the places, their counts and what a sync keeps stay; and what
 -- the view is after one that writes words 3 to 7 alone.
-use mathlib.Core.Path.{◌≡◌, refl, sym, ap, ◌∙◌, fun_ext}
+use mathlib.Core.Path.{◌≡◌, sym, ap, ◌∙◌, fun_ext}
 use mathlib.Core.Bool.{Bool}
 use mathlib.Core.List.{List}
 use Prim.Native.Nat.{ℕ, ◌+◌, ◌*◌, ◌≤◌, ◌<◌}

@@ -2,20 +2,18 @@
 use mathlib.Core.Path.{◌≡◌, refl, sym, ap, ◌∙◌, subst}
 use mathlib.Core.Bool.{Bool, true, false, cond}
 use mathlib.Core.List.{List}
-use Prim.Native.Nat.{ℕ, zero, suc, ◌+◌, ◌*◌, ◌≤◌, ◌<◌}
+use Prim.Native.Nat.{ℕ, zero, suc, ◌+◌, ◌≤◌, ◌<◌}
 use native.Mathlib.Omega.{arith}
-use lib.ListN.{length}
 use lib.Dec.{eqb, ltb}
 use borrow.Author.Tests.{eqb-true, eqb-false, eq-eqb, lt-ltb}
-use Rattle.amount.specs.Choose.{◌if◌else◌}
 use Rattle.model.specs.Places.{count, put_at, sum}
-use Rattle.model.specs.Holding.{Cell, free, held, Holdings, is_free, is_held, is_live, is_canonical, effective_count, live_count}
+use Rattle.model.specs.Holding.{Cell, is_free, is_held, is_live, is_canonical, effective_count, live_count}
 use Rattle.model.specs.Standing.{canonical_count}
 use Rattle.model.specs.Numbers.{State}
 use Rattle.model.proofs.Tools.{by_bool}
-use Rattle.model.proofs.Sums.{count_put, count_below}
+use Rattle.model.proofs.Sums.{count_put}
 use Rattle.memory.specs.Words.{word}
-use Rattle.memory.specs.Layout.{row, Laid}
+use Rattle.memory.specs.Layout.{Laid}
 use Rattle.rows.specs.Rows.{cell_at}
 use Rattle.state.specs.View.{cells_of, view_at}
 use Rattle.state.specs.Sound.{SoundAt, Roster, is_listed}

@@ -1,27 +1,26 @@
 -- What soundness needs of a change: each structure by itself.
 use mathlib.Core.Path.{◌≡◌, refl, sym, ap, ◌∙◌, subst, fun_ext}
-use mathlib.Core.Bool.{Bool, true, false}
+use mathlib.Core.Bool.{true, false}
 use mathlib.Core.List.{List}
-use Prim.Native.Nat.{ℕ, suc, ◌+◌, ◌*◌, ◌≤◌, ◌<◌}
+use Prim.Native.Nat.{ℕ, ◌+◌, ◌*◌, ◌≤◌, ◌<◌}
 use native.Mathlib.Omega.{arith}
 use lib.ListN.{length}
 use lib.Dec.{eqb}
 use Rattle.model.specs.Record.{Header}
 use Rattle.model.specs.Lists.{elem}
-use Rattle.memory.specs.Words.{word, seg}
+use Rattle.memory.specs.Words.{word}
 use Rattle.memory.specs.Layout.{row, by_hash, by_prev, nodes, ring, by_touch, Laid}
 use Rattle.memory.proofs.WordLaws.{seg_same}
-use Rattle.rows.specs.Rows.{header_at}
 use Rattle.index.specs.Index.{Keyed}
 use Rattle.index.specs.Keys.{key_at}
 use Rattle.index.proofs.IndexLaws.{keyed_frame}
-use Rattle.contest.specs.Tree.{WF, View}
+use Rattle.contest.specs.Tree.{WF}
 use Rattle.contest.specs.Keys.{enters, rank}
 use Rattle.contest.specs.Contests as contest
-use Rattle.contest.proofs.TreeLaws.{Agree, wf_agree}
+use Rattle.contest.proofs.TreeLaws.{wf_agree}
 use Rattle.contest.proofs.ContestLaws.{total}
-use Rattle.journal.specs.Journal.{tab, later_at, slot_of, touched_at, Last, Indexed, Journaled}
-use Rattle.state.specs.Sound.{Used, hash_at, SoundAt}
+use Rattle.journal.specs.Journal.{tab, later_at, slot_of, Last, Indexed, Journaled}
+use Rattle.state.specs.Sound.{Used, hash_at}
 use Rattle.state.proofs.ViewLaws.{header_same, slot_same, touched_same}
 
 pub laid_same : (m m' : List ℕ) (n : ℕ) → Laid m n → word m' 0 ≡ word m 0 → word m' 1 ≡ word m 1 → length m' ≡ length m → Laid m' n

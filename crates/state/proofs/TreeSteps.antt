@@ -5,16 +5,16 @@ use Prim.Native.Nat.{ℕ, ◌+◌, ◌*◌, ◌-◌, ◌≤◌, ◌<◌}
 use native.Mathlib.Omega.{arith}
 use lib.Dec.{eqb}
 use Rattle.model.specs.Places.{count}
-use Rattle.model.specs.Holding.{Cell, free, Holdings, is_free, is_held, is_live, is_canonical}
+use Rattle.model.specs.Holding.{Cell, free, is_free, is_held, is_live, is_canonical}
 use Rattle.model.specs.Numbers.{State}
 use Rattle.memory.specs.Words.{word, seg}
-use Rattle.memory.specs.Layout.{row, nodes, vacant_at, Laid}
+use Rattle.memory.specs.Layout.{row, vacant_at, Laid}
 use Rattle.memory.proofs.WordLaws.{seg_same}
 use Rattle.roster.proofs.RosterLaws.{roster_same, roster_frame}
 use Rattle.rows.specs.Rows.{cell_at}
 use Rattle.journal.specs.Journal.{journal_of}
 use Rattle.state.specs.View.{cells_of, values_of, synced_of, state, view_at}
-use Rattle.state.specs.Sound.{Used, SoundAt}
+use Rattle.state.specs.Sound.{SoundAt}
 use Rattle.state.specs.TreeOnly.{TreeOnly}
 use Rattle.state.proofs.ViewLaws.{state_eq, cell_same, below_same, journal_same}
 use Rattle.state.proofs.SoundLaws.{laid_same, Kept, hashes_same, prevs_same, keys_same, free_same, journaled_same}

@@ -1,6 +1,6 @@
 -- What the view sees of a change: the frame laws.
-use mathlib.Core.Path.{◌≡◌, refl, sym, ap, ◌∙◌, fun_ext}
-use mathlib.Core.Bool.{Bool, true, false}
+use mathlib.Core.Path.{◌≡◌, refl, ap, ◌∙◌, fun_ext}
+use mathlib.Core.Bool.{Bool}
 use mathlib.Core.List.{List}
 use mathlib.Core.Option.{Option}
 use Prim.Native.Nat.{ℕ, zero, suc, ◌+◌, ◌*◌, ◌-◌, ◌≤◌, ◌<◌}
@@ -10,9 +10,9 @@ use borrow.Author.Tests.{eqb-true, eqb-false, ltb-true, lt-ltb}
 use Rattle.amount.specs.Choose.{◌if◌else◌}
 use Rattle.model.specs.Places.{put_at}
 use Rattle.model.specs.Record.{Header, Copy}
-use Rattle.model.specs.Holding.{Cell, free, held, Held, answer_of}
+use Rattle.model.specs.Holding.{Cell, free, Held, answer_of}
 use Rattle.model.specs.Standing.{Spine, winner, canonical, Values, unlinked}
-use Rattle.model.specs.Numbers.{State, Point}
+use Rattle.model.specs.Numbers.{Point}
 use Rattle.model.proofs.Tools.{by_bool}
 use Rattle.memory.specs.Words.{word, seg}
 use Rattle.memory.specs.Layout.{row, ring}

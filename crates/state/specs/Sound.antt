@@ -1,11 +1,10 @@
 -- A memory that our calls left: the structures of the holdings agree with what the rows say. One field a concern. What a sync keeps of the tree
 -- has a record of its own (crate relink, Treed.antt); `Apart` (Moves.antt) says that a step leaves that alone.
-use Rattle.std.specs.Prelude.{Bool, true, false, List, ◌≡◌, ℕ, ◌+◌, ◌*◌, ◌<◌, ltb}
+use Rattle.std.specs.Prelude.{Bool, true, false, List, ◌≡◌, ℕ, ◌+◌, ◌<◌, ltb}
 use Rattle.std.proofs.Math.Option.{Option, none, some}
 use Rattle.amount.specs.Choose.{◌if◌else◌}
 use Rattle.model.specs.Holding.{is_free, is_held, effective_count, live_count}
 use Rattle.model.specs.Standing.{canonical_count}
-use Rattle.model.specs.Record.{Header}
 use Rattle.memory.specs.Words.{word}
 use Rattle.memory.specs.Layout.{row, by_hash, by_prev, vacant_at, Laid}
 use Rattle.index.specs.Index.{Keyed}

@@ -1,5 +1,5 @@
 -- What the memory means: the model's state, read off the words (addresses: crates/memory/specs/Layout.antt). Total: any memory has a view.
-use Rattle.std.specs.Prelude.{Bool, true, false, List, ℕ, eqb, ltb}
+use Rattle.std.specs.Prelude.{Bool, List, ℕ, eqb, ltb}
 use Rattle.std.proofs.Math.Option.{Option, none, some}
 use Rattle.amount.specs.Choose.{◌if◌else◌}
 use Rattle.model.specs.Holding.{Cell, free}

@@ -1,4 +1,6 @@
 // Looking up: the place of a hash, the lowest free place, and the effective record at a place (document 01, "Holding blocks").
+#![tactic(auto)]
+
 ghost use Rattle.std.specs.Prelude.{◌≡◌, ◌<◌};
 ghost use Rattle.block.specs.Answers.{shown_number, shown_reply};
 ghost use Rattle.hash.specs.Hashes.{join};

@@ -2,13 +2,12 @@
 -- between them, if the last sync covers the present, every question about the tree is answered as 01's rules give it for the records and answers now held, worked out from
 -- nothing. A reader sees here: start (`begun`), any calls (`done`, `reloaded`, `synced`), a question (`AskedTree`), its answer.
 use mathlib.Core.Path.{◌≡◌, refl, sym, ap, ◌∙◌, subst}
-use mathlib.Core.Bool.{Bool, true, false}
+use mathlib.Core.Bool.{true, false}
 use mathlib.Core.List.{List}
 use mathlib.Core.Option.{some}
 use Prim.{tt}
 use Prim.Native.Nat.{ℕ}
 use Rattle.model.specs.Standing.{winner, Value, Values, from_nothing}
-use Rattle.amount.specs.Choose.{◌if◌else◌}
 use Rattle.model.specs.Questions.{TreeQuestion, node, parent_q, linked_q, canonical_linked_q, best_q, canonical_best_q, canonical_count_q, live_count_q, leaves_q, Reply, leaves, tree_reply}
 use Rattle.model.specs.Numbers.{State, Call, reload, sync, ask_tree}
 use Rattle.model.specs.Runs as runs

@@ -1,35 +1,30 @@
 -- Every call leaves a whole memory: start and reload an empty one; load, put, removal and answer leave what a sync keeps as it was.
 use mathlib.Core.Path.{◌≡◌, refl, sym, ap, ◌∙◌, subst}
-use mathlib.Core.Bool.{Bool, true, false, ◌&&◌}
+use mathlib.Core.Bool.{true, false, ◌&&◌}
 use mathlib.Core.List.{List}
-use Prim.Native.Nat.{ℕ, ◌+◌, ◌*◌, ◌≤◌, ◌<◌}
+use Prim.Native.Nat.{ℕ, ◌+◌, ◌<◌}
 use native.Mathlib.Omega.{arith}
-use lib.Dec.{eqb, ltb, leb}
-use lib.ListN.{length}
+use lib.Dec.{eqb, leb}
 use borrow.Author.Tests.{eqb-true, eqb-false, le-ltb}
-use Rattle.amount.specs.Choose.{◌if◌else◌}
-use Rattle.model.specs.Places.{count}
-use Rattle.model.specs.Holding.{Holdings, store_of, has_copy, keep, drop, touch, take_answer, release, empty}
-use Rattle.model.specs.Numbers.{State, Call, load, put, remove, answer, reload, sync, begin, number, step, effect}
+use Rattle.model.specs.Holding.{store_of, has_copy, keep, drop, touch, take_answer, release, empty}
+use Rattle.model.specs.Numbers.{State, Call, load, put, remove, answer, reload, sync, number, step, effect}
 use Rattle.model.specs.Runs.{Run, start, call}
 use Rattle.model.proofs.Tools.{by_bool, no_both}
 use Rattle.model.proofs.Sums.{sum_none}
 use Rattle.memory.specs.Words.{word}
-use Rattle.memory.specs.Layout.{row, nodes, leaves_at, vacant_at, Laid}
-use Rattle.contest.specs.Keys.{enters}
+use Rattle.memory.specs.Layout.{nodes, leaves_at, Laid}
 use Rattle.roster.specs.Dense.{inside}
-use Rattle.roster.specs.Roster.{size_at, member_at, position_at, is_in, WellFormed}
+use Rattle.roster.specs.Roster.{size_at, position_at, is_in, WellFormed}
 use Rattle.state.specs.View.{view, view_at}
-use Rattle.state.specs.Sound.{Used, SoundAt, Sound}
-use Rattle.state.specs.Moves.{Apart, Right, Done}
+use Rattle.state.specs.Moves.{Apart, Done}
 use Rattle.clearing.specs.Blank.{Blank}
 use Rattle.clearing.specs.Calls.{Starts, Reloads}
 use Rattle.pending.specs.Pending.{Pends}
-use Rattle.kin.specs.Kin.{linked_at, up_at, kids_at}
+use Rattle.kin.specs.Kin.{linked_at, up_at}
 use Rattle.relink.specs.Treed.{Treed, TreedWords}
 use Rattle.relink.proofs.TreedLaws.{treed_frame, parent_used, listless_same}
-use Rattle.asking.specs.Whole.{Whole, WholeAt}
-use Rattle.tree.specs.Calls.{Kept, Keeps}
+use Rattle.asking.specs.Whole.{Whole}
+use Rattle.tree.specs.Calls.{Keeps}
 use Rattle.tree.proofs.SyncLaws.{idle_kept}
 
 -- ---- an empty memory ----

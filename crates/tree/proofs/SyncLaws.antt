@@ -1,37 +1,36 @@
 -- A sync, from a whole memory to a whole one.
-use mathlib.Core.Path.{◌≡◌, refl, sym, ap, ◌∙◌, subst, fun_ext}
-use mathlib.Core.Bool.{Bool, true, false, not, ◌&&◌}
+use mathlib.Core.Path.{◌≡◌, refl, sym, ap, ◌∙◌, subst}
+use mathlib.Core.Bool.{true, false}
 use mathlib.Core.List.{List}
 use mathlib.Core.Option.{Option, none, some}
-use Prim.Native.Nat.{ℕ, suc, ◌+◌, ◌*◌, ◌≤◌, ◌<◌}
+use Prim.Native.Nat.{ℕ, suc, ◌+◌, ◌≤◌, ◌<◌}
 use native.Mathlib.Omega.{arith}
-use lib.Dec.{eqb, ltb}
+use lib.Dec.{eqb}
 use lib.ListN.{length}
-use borrow.Author.Tests.{eqb-true, eqb-false, lt-ltb}
-use Rattle.amount.specs.Choose.{◌if◌else◌}
-use Rattle.model.specs.Holding.{Cell, free, held, Holdings, is_free, is_held, is_live, released, release, index_of, answered, set_answer}
-use Rattle.model.specs.Standing.{Spine, winner, canonical, Values, Value as Worth, is_linked, standing, names, parent, value_at}
-use Rattle.model.specs.Relink.{Pending, settled, relinked}
-use Rattle.model.specs.Numbers.{State, Call, Point, sync, number, step, effect, changes}
+use borrow.Author.Tests.{lt-ltb}
+use Rattle.model.specs.Holding.{Cell, free, held, Holdings, is_held, is_live, released, release, index_of, answered, set_answer}
+use Rattle.model.specs.Standing.{Spine, winner, canonical, Values, is_linked, standing, names, parent, value_at}
+use Rattle.model.specs.Relink.{settled, relinked}
+use Rattle.model.specs.Numbers.{State, sync, number, step, effect, changes}
 use Rattle.model.specs.Runs.{Run, call}
 use Rattle.model.proofs.Tools.{by_bool, by_option, no_both}
 use Rattle.model.proofs.Turn.{names_index, parent-some}
 use Rattle.model.proofs.Parent.{named_one}
 use Rattle.model.proofs.Upheld.{upheld}
-use Rattle.model.proofs.WalkLaws.{Upheld, linked_live, allowed, allowed_live}
+use Rattle.model.proofs.WalkLaws.{linked_live, allowed, allowed_live}
 use Rattle.block.specs.Words.{quad}
-use Rattle.memory.specs.Words.{word, seg, Only, Four, Stored}
-use Rattle.memory.specs.Layout.{row, nodes, leaves_at, vacant_at, ring, Laid}
-use Rattle.memory.proofs.WordLaws.{seg_same, stored_same, stored_other, stored_long}
+use Rattle.memory.specs.Words.{word, seg, Four, Stored}
+use Rattle.memory.specs.Layout.{row, nodes, Laid}
+use Rattle.memory.proofs.WordLaws.{stored_same, stored_other, stored_long}
 use Rattle.journal.specs.Journal.{journal_of}
-use Rattle.state.specs.View.{cells_of, values_of, synced_of, state, view, view_at}
+use Rattle.state.specs.View.{cells_of, values_of, synced_of, view, view_at}
 use Rattle.state.specs.Sound.{Used, SoundAt}
 use Rattle.state.specs.TreeOnly.{TreeOnly}
 use Rattle.state.proofs.ViewLaws.{state_eq, values_same, journal_same}
 use Rattle.state.proofs.SoundLaws.{laid_same, journaled_same}
 use Rattle.state.proofs.HeadSteps.{head_cells, head_sound}
-use Rattle.state.proofs.TreeSteps.{tree_then, tree_cells, tree_sound, tree_laid, tree_journal, tree_holdings}
-use Rattle.releasing.specs.Releases.{ReleaseOnly, Releases}
+use Rattle.state.proofs.TreeSteps.{tree_then, tree_cells, tree_sound, tree_journal, tree_holdings}
+use Rattle.releasing.specs.Releases.{Releases}
 use Rattle.contest.specs.Keys.{enters}
 use Rattle.contest.proofs.KeyLaws.{enters_kept}
 use Rattle.contest.proofs.Uses.{still}
@@ -39,13 +38,13 @@ use Rattle.standing.proofs.ParentLaws.{sound_distinct}
 use Rattle.pending.specs.Pending.{Pends}
 use Rattle.pending.proofs.NextLaws.{live_used}
 use Rattle.kin.specs.Kin.{linked_at, up_at}
-use Rattle.relink.specs.Treed.{Treed, TreedWords}
+use Rattle.relink.specs.Treed.{TreedWords}
 use Rattle.relink.proofs.TreedLaws.{treed_frame, listless_same}
 use Rattle.relink.proofs.WorkLaws.{linked_is, canonical_is, root_linked}
 use Rattle.relink.specs.Gathers.{Gathered, Gathers}
 use Rattle.relink.specs.Turned.{Settled, Settles}
 use Rattle.asking.specs.Whole.{WholeAt}
-use Rattle.tree.specs.Calls.{Noted, SyncedAt, Syncs, Kept, Keeps}
+use Rattle.tree.specs.Calls.{Noted, Syncs, Keeps}
 
 -- a sync is never refused
 pub step-sync : (s : State) → effect sync s ≡ step sync s

@@ -1,6 +1,6 @@
 -- What a call promises of a whole memory: whatever the memory, a refusal leaves it; of a whole one, the number is the model's, and what is left is
 -- whole and stands for the model's next state.
-use Rattle.std.specs.Prelude.{List, ◌≡◌, ℕ, ◌<◌, length}
+use Rattle.std.specs.Prelude.{List, ◌≡◌, ℕ, length}
 use Rattle.model.specs.Numbers.{Call, sync, number, step}
 use Rattle.memory.specs.Words.{word, Only}
 use Rattle.state.specs.View.{view, view_at}

@@ -1,5 +1,7 @@
 // Sync (document 01, "Standing in the tree", "Holding blocks"): linked and canonical linked values, both bests, leaves and counts are brought up to
 // the holdings; then room is freed, and loading is closed.
+#![tactic(auto)]
+
 ghost use Rattle.std.specs.Prelude.{◌≤◌, length};
 ghost use Rattle.block.specs.Answers.{done_number};
 ghost use Rattle.memory.specs.Layout.{Laid};

@@ -1,24 +1,23 @@
 -- The code of one place put, and a pass over all places.
-use mathlib.Core.Path.{◌≡◌, refl, sym, ap, ◌∙◌}
-use mathlib.Core.Bool.{Bool, true, false}
+use mathlib.Core.Path.{◌≡◌, sym, ap, ◌∙◌}
+use mathlib.Core.Bool.{true}
 use mathlib.Core.List.{List}
 use Prim.Native.Nat.{ℕ, ◌+◌, ◌≤◌, ◌<◌}
 use native.Mathlib.Omega.{arith}
 use lib.Dec.{eqb, ltb}
-use borrow.Author.Tests.{eqb-true, eqb-false, eq-eqb, lt-ltb, le-ltb, ltb-true, ltb-false}
+use borrow.Author.Tests.{eqb-true, eqb-false, lt-ltb, le-ltb, ltb-true, ltb-false}
 use Rattle.amount.specs.Choose.{◌if◌else◌}
 use Rattle.memory.specs.Words.{word}
 use Rattle.memory.specs.Layout.{row, Laid}
 use Rattle.model.specs.Places.{put_at}
 use Rattle.model.specs.Numbers.{State}
 use Rattle.model.specs.Holding.{Holdings, is_live}
-use Rattle.model.specs.Walks.{walk}
 use Rattle.model.proofs.Tools.{by_bool}
 use Rattle.state.specs.Sound.{SoundAt, Used}
 use Rattle.state.specs.View.{cells_of, view_at}
 use Rattle.pending.specs.Pending.{PendOnly}
 use Rattle.pending.proofs.PendLaws.{pend_same, pend_then, pend_view}
-use Rattle.pending.proofs.TurnLaws.{pend_laid, pend_sound}
+use Rattle.pending.proofs.TurnLaws.{pend_sound}
 use Rattle.pending.proofs.NextLaws.{live_used}
 use Rattle.walks.specs.Walked.{Lined}
 use Rattle.writing.specs.Coded.{Coded}

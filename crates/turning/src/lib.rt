@@ -1,4 +1,6 @@
 // Passes and climbs of Select (document 01, "The two plans"): what they make of the codes of places.
+#![tactic(auto)]
+
 ghost use Rattle.std.specs.Prelude.{not, true, ◌≡◌, ◌+◌, ◌<◌, eqb};
 ghost use Rattle.std.proofs.Math.Option.{some};
 ghost use Rattle.memory.specs.Layout.{Laid, row};
@@ -19,7 +21,7 @@ use walks::Floor;
 
 // What a pass over all places looks for: canonical blocks off the walk that is noted, blocks aside that are on it, or all that are aside, for
 // which a code is given.
-#[derive(Drop)]
+#[derive(Clone, Copy)]
 pub enum Turn {
     Off(Floor),
     Near,

@@ -1,4 +1,6 @@
 // The linked value of a place, as words of its row (document 01, "Standing in the tree"): read, written, compared.
+#![tactic(auto)]
+
 ghost use Rattle.std.specs.Bool.{beq};
 ghost use Rattle.std.specs.Prelude.{◌&&◌, ◌≡◌, ◌+◌, ◌≤◌, eqb, length};
 ghost use Rattle.amount.specs.Choose.{◌if◌else◌};
@@ -11,7 +13,7 @@ ghost use Rattle.values.specs.Values.{Written, value_means};
 use amount::{Amount, Order};
 
 // A linked value: none, or the work and whether the proofs are ok.
-#[derive(Drop)]
+#[derive(Clone, Copy)]
 pub enum Value {
     None,
     Linked(Amount, bool),

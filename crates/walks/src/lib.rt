@@ -1,5 +1,7 @@
 // Walks through parents (document 01, "The two plans"): the fork of two walks, and a walk noted in the rows, so that a plan can go up it and ask
 // of a block whether it is on it.
+#![tactic(auto)]
+
 ghost use Rattle.std.specs.Prelude.{◌≡◌, ◌<◌};
 ghost use Rattle.memory.specs.Layout.{Laid};
 ghost use Rattle.model.specs.Lists.{elem};
@@ -11,7 +13,7 @@ ghost use Rattle.walks.specs.Asking.{floor_means};
 ghost use Rattle.walks.specs.Walked.{LineOnly, Lined};
 
 // A floor that a plan may be given.
-#[derive(Drop)]
+#[derive(Clone, Copy)]
 pub enum Floor {
     None,
     At(u64),

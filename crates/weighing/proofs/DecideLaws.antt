@@ -2,23 +2,20 @@
 use mathlib.Core.Path.{◌≡◌, refl, sym, ap, ◌∙◌}
 use mathlib.Core.Bool.{Bool, true, false, not, ◌&&◌, ◌||◌}
 use mathlib.Core.List.{List, [], ◌∷◌}
-use mathlib.Core.Option.{Option, none, some}
-use Prim.Native.Nat.{ℕ, suc, ◌+◌, ◌-◌, ◌<◌}
-use native.Mathlib.Omega.{arith}
-use lib.Dec.{eqb}
-use borrow.Author.Tests.{eq-eqb, ne_eqb, eqb-true, eqb-false}
-use Rattle.memory.specs.Words.{word, seg}
+use mathlib.Core.Option.{Option}
+use Prim.Native.Nat.{ℕ, ◌+◌, ◌<◌}
+use borrow.Author.Tests.{eq-eqb, ne_eqb}
+use Rattle.memory.specs.Words.{word}
 use Rattle.memory.specs.Layout.{row}
-use Rattle.rows.specs.Rows.{value_of}
 use Rattle.model.specs.Places.{is_some}
 use Rattle.model.specs.Lists.{any, all}
 use Rattle.model.specs.Holding.{Holdings, index_of}
-use Rattle.model.specs.Standing.{canonical, winner, Value, Values, proofs_ok, canonical_count}
+use Rattle.model.specs.Standing.{canonical, winner, Values, proofs_ok}
 use Rattle.model.specs.Comparing.{Side, choose_verified, is_adopted, Comparison}
 use Rattle.model.specs.Walks.{Asked, index, covers_at, cell_covers, below}
 use Rattle.model.specs.Select.{on, aside, held_back, goes_on, compared, side_of}
 use Rattle.model.proofs.Tools.{by_bool, not_is, not_is_true}
-use Rattle.state.specs.Sound.{SoundAt, Used}
+use Rattle.state.specs.Sound.{Used}
 use Rattle.state.specs.View.{cells_of, values_of, view_at}
 use Rattle.walks.proofs.DownLaws.{index_word}
 use Rattle.walks.specs.Asking.{Asks}

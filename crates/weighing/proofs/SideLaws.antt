@@ -1,24 +1,17 @@
 -- The chain that ends at a place.
-use mathlib.Core.Path.{◌≡◌, refl, sym, ap, ◌∙◌}
-use mathlib.Core.Bool.{Bool, true, false}
+use mathlib.Core.Path.{◌≡◌, sym, ap, ◌∙◌}
 use mathlib.Core.List.{List}
 use Prim.Native.Nat.{ℕ, ◌+◌, ◌<◌}
-use native.Mathlib.Omega.{arith}
-use borrow.Author.Tests.{lt-ltb}
-use Rattle.memory.specs.Words.{word, seg}
 use Rattle.memory.specs.Layout.{row}
-use Rattle.block.specs.Words.{header_of}
-use Rattle.rows.specs.Rows.{header_at, value_of}
-use Rattle.rows.specs.Rows as rows
-use Rattle.choice.specs.Parts.{Covering}
+use Rattle.rows.specs.Rows.{header_at}
 use Rattle.model.specs.Record.{Header}
 use Rattle.model.specs.Holding.{Holdings, index_of, hash_of}
-use Rattle.model.specs.Standing.{Spine, winner, canonical, Value, Values}
-use Rattle.model.specs.Comparing.{Work, Side}
-use Rattle.model.specs.Walks.{Asked, cell_covers}
+use Rattle.model.specs.Standing.{Spine, Value, Values}
+use Rattle.model.specs.Comparing.{Work}
+use Rattle.model.specs.Walks.{Asked}
 use Rattle.model.specs.Select.{scored, side_of}
 use Rattle.state.specs.Sound.{Used}
-use Rattle.state.specs.View.{cells_of, values_of, view_at}
+use Rattle.state.specs.View.{values_of, view_at}
 use Rattle.state.proofs.FindLaws.{used_is}
 
 module _ (m : List ℕ) (n p : ℕ) (p<n : p < n) where

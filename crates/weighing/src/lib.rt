@@ -1,4 +1,6 @@
 // Whether Select goes on (document 01, "The two plans"): the two chains as sides, the floor, and the comparison.
+#![tactic(auto)]
+
 ghost use Rattle.std.specs.Prelude.{◌&&◌, ◌||◌, not, true, ◌≡◌, ◌+◌, ◌<◌};
 ghost use Rattle.memory.specs.Layout.{Laid};
 ghost use Rattle.model.specs.Places.{is_some};

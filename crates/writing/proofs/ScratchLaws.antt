@@ -1,11 +1,11 @@
 -- What the core of a plan may change, step after step, leaves the state that the memory stands for.
 use mathlib.Core.Path.{◌≡◌, refl, sym, subst, ◌∙◌}
 use mathlib.Core.List.{List}
-use Prim.Native.Nat.{ℕ, ◌+◌}
+use Prim.Native.Nat.{ℕ}
 use native.Mathlib.Omega.{arith}
 use Rattle.model.specs.Runs.{Run}
 use Rattle.model.specs.Numbers.{State}
-use Rattle.memory.specs.Layout.{row, Laid}
+use Rattle.memory.specs.Layout.{Laid}
 use Rattle.state.specs.TreeOnly.{TreeOnly}
 use Rattle.state.specs.View.{view_at}
 use Rattle.state.proofs.ViewLaws.{view_same}

@@ -1,7 +1,7 @@
 -- Document 01, "The two plans": what the code of a place that a plan writes means: the copy that stands there after the plan, by the clock and the comparison's reason of the
 -- plan. A block is promoted, demoted or orphaned once, or promoted after it was orphaned as stale; a later change to it is one that an earlier one does not show in.
-use Rattle.std.specs.Prelude.{Bool, not, List, ◌≡◌, ℕ, ◌-◌, ◌<◌, eqb, ℤ}
-use Rattle.std.proofs.Math.Option.{Option, none, some}
+use Rattle.std.specs.Prelude.{not, List, ◌≡◌, ℕ, ◌-◌, ◌<◌, eqb, ℤ}
+use Rattle.std.proofs.Math.Option.{none, some}
 use Rattle.amount.specs.Choose.{◌if◌else◌}
 use Rattle.model.specs.Record.{Reason, Copy, off_spine, competing_fork, stale_fork}
 use Rattle.model.specs.Holding.{Holdings, hash_of}

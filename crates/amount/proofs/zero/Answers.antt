@@ -1,0 +1,6 @@
+-- `amount::zero` meets its contract, by that of `from_words`.
+use Rattle.amount.proofs.Limbs as limbs
+use Rattle.amount.proofs.zero.Goals as goal
+
+pub returns : goal.returns
+returns c = limbs.worth c.from_words.ensures (limbs.low_word _)

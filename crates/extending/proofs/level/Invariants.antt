@@ -1,0 +1,9 @@
+-- `extending::level` meets its contract: what is sought from s is sought from where the walk came to.
+use Rattle.extending.proofs.LevelLaws.{Searching}
+use Rattle.extending.proofs.level.Given as goal
+
+abbrev pub invariant-loop-left : goal.invariant-loop-left
+invariant-loop-left l = Searching l.mem l.n l.s l.i l.q l.left
+
+abbrev pub decreases-loop-left : goal.decreases-loop-left
+decreases-loop-left l = l.left

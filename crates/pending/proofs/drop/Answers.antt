@@ -1,0 +1,13 @@
+-- `pending::drop` meets its contract.
+use mathlib.Core.Path.{refl}
+use native.Mathlib.Omega.{arith}
+use Rattle.pending.proofs.PendLaws.{drop_stores, laid_stored}
+use Rattle.pending.proofs.drop.Goals as goal
+
+pub update-requires : goal.update-requires
+update-requires c = record { laid = laid_stored (omega arith) (record { now_is = refl }) c.requires.0; bounds = (omega arith, c.requires.1) }
+
+pub returns : goal.returns
+returns c =
+    let p = c.requires in
+    drop_stores _ _ _ _ _ p.0 p.1 (record { now_is = refl }) c.update.ensures

@@ -1,0 +1,9 @@
+-- `walks::fork` meets its contract: the walks from x and y that are left have the fork that was asked for.
+use Rattle.walks.proofs.ForkLaws.{Coming}
+use Rattle.walks.proofs.fork.Given as goal
+
+abbrev pub invariant-loop-left : goal.invariant-loop-left
+invariant-loop-left l = Coming l.mem l.n l.p l.q l.x l.y l.left
+
+abbrev pub decreases-loop-left : goal.decreases-loop-left
+decreases-loop-left l = l.left
