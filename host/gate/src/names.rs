@@ -18,13 +18,11 @@ pub fn renamed(before: &Path, after: &Path) -> BTreeMap<String, String> {
     for file in ["Lts.antt", "Lts/View.antt", "Lts/Given.antt"] {
         let [old, new] = [before, after].map(|folder| fs::read_to_string(folder.join(file)).unwrap_or_default());
         let [old, new] = [&old, &new].map(|text| text.lines().filter_map(declared).collect::<Vec<&str>>());
-        if old.len() == new.len() {
-            for (old, new) in old.into_iter().zip(new) {
-                add(old, new);
-                for prefix in ["Named-", "In-"] {
-                    if let (Some(old), Some(new)) = (old.strip_prefix(prefix), new.strip_prefix(prefix)) {
-                        add(old, new);
-                    }
+        for (old, new) in paired(&old, &new) {
+            add(old, new);
+            for prefix in ["Named-", "In-"] {
+                if let (Some(old), Some(new)) = (old.strip_prefix(prefix), new.strip_prefix(prefix)) {
+                    add(old, new);
                 }
             }
         }
@@ -39,6 +37,39 @@ pub fn renamed(before: &Path, after: &Path) -> BTreeMap<String, String> {
     // a name that stands for two things is left as it is
     let one = |(old, new): (String, BTreeSet<String>)| Some((old, new.first()?.clone())).filter(|_| new.len() == 1);
     all.into_iter().filter_map(one).filter(|(old, new)| old != new).collect()
+}
+
+/// The names of two lists that stand at the same place: those that are alike,
+/// and between these as many on the one side as on the other. The edited
+/// function may owe a fact more, which has names of its own.
+fn paired<'a>(old: &[&'a str], new: &[&'a str]) -> Vec<(&'a str, &'a str)> {
+    let mut longest = vec![vec![0; new.len() + 1]; old.len() + 1];
+    for (i, one) in old.iter().enumerate().rev() {
+        for (j, other) in new.iter().enumerate().rev() {
+            longest[i][j] =
+                if one == other { longest[i + 1][j + 1] + 1 } else { longest[i + 1][j].max(longest[i][j + 1]) };
+        }
+    }
+    let (mut all, mut from, mut at) = (Vec::new(), (0, 0), (0, 0));
+    loop {
+        let is_end = at.0 == old.len() || at.1 == new.len();
+        if is_end || old[at.0] == new[at.1] {
+            let to = if is_end { (old.len(), new.len()) } else { at };
+            if to.0 - from.0 == to.1 - from.1 {
+                all.extend(old[from.0..to.0].iter().copied().zip(new[from.1..to.1].iter().copied()));
+            }
+            if is_end {
+                return all;
+            }
+            all.push((old[at.0], new[at.1]));
+            at = (at.0 + 1, at.1 + 1);
+            from = at;
+        } else if longest[at.0 + 1][at.1] >= longest[at.0][at.1 + 1] {
+            at.0 += 1;
+        } else {
+            at.1 += 1;
+        }
+    }
 }
 
 /// The name that a line declares: of a definition, a record, a field or a case.

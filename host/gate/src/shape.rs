@@ -78,7 +78,7 @@ impl Node {
             _ => return None,
         };
         let free = match word {
-            "lt" | "le" | "eq" | "ne" | "bit_not" => true,
+            "lt" | "le" | "eq" | "ne" | "bit_not" | "bit_and" | "bit_or" | "bit_xor" => true,
             "div" | "rem" => ["int", "int_big"].contains(&parts.get(3)?.head()),
             _ => false,
         };
