@@ -3,7 +3,7 @@
 // What it writes is compared with the answers of Rust's own `u128`.
 #![tactic(auto)]
 
-ghost use Rattle.std.specs.Prelude.{◌<◌, ◌≤◌, length};
+ghost use Rattle.std.specs.Prelude.{◌<◌, ◌≤◌, IfOk, length};
 
 use amount::{Amount, Order, Reading};
 use std::io;
@@ -12,7 +12,7 @@ use std::io::Read;
 // A value below 2^128 has at most as many hexadecimal digits.
 const DIGITS: usize = 32;
 
-// The input is shorter: where so many bytes are read there may be more.
+// The input is shorter: where the buffer is full there may be more.
 const ROOM: usize = 65536;
 
 fn digit(d: u8) -> u8
@@ -90,11 +90,27 @@ fn answer_lines(rt: &impl Print, text: &[u8]) -> io::Result<()> {
     Ok(())
 }
 
+// Fills the buffer as far as the input goes, and answers how many bytes that is.
+fn read_full(input: &mut impl Read, buf: &mut [u8]) -> io::Result<usize>
+    ensures { IfOk result (λ n. n ≤ length buf.old) }
+{
+    let mut n = 0;
+    while n < buf.len() {
+        let got = input.read(&mut buf[n..])?;
+        if got == 0 {
+            return Ok(n);
+        }
+        n += got;
+    }
+    Ok(n)
+}
+
 fn main(rt: HostRuntime) -> io::Result<()> {
-    let mut buf = Vec::new(rt.alloc());
-    rt.reader().take(ROOM as u64).read_to_end(&mut buf)?;
-    if buf.len() < ROOM {
-        answer_lines(&rt, &buf)
+    let mut buf = [0u8; ROOM];
+    let mut input = rt.reader();
+    let n = read_full(&mut input, &mut buf)?;
+    if n < ROOM {
+        answer_lines(&rt, &buf[..n])
     } else {
         rt.write_all(b"the input is longer than 65535 bytes\n")
     }

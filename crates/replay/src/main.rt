@@ -284,16 +284,30 @@ fn replay(
     Ok(())
 }
 
-// Replays what comes on standard input. (What is lent is large, and stands on the heap.)
-fn replay_in<R: Print + Input + AllocGlobal>(rt: &R) -> io::Result<()> {
-    let mut text = vec![in rt.alloc(); 0u8; TEXT]?;
-    let mut mem = vec![in rt.alloc(); 0u64; WORDS]?;
-    let mut list = vec![in rt.alloc(); 0u8; LIST]?;
-    let mut entries = vec![in rt.alloc(); 0u64; ENTRIES]?;
-    let mut input = rt.reader();
-    replay(rt, &mut input, &mut text, &mut mem, &mut list, &mut entries)
+// (Arrays of a known length are made slices here, where nothing counts their elements.)
+fn replay_in(
+    rt: &impl Print,
+    input: &mut impl Read,
+    text: &mut [u8; TEXT],
+    mem: &mut [u64; WORDS],
+    list: &mut [u8; LIST],
+    entries: &mut [u64; ENTRIES],
+) -> io::Result<()> {
+    replay(rt, input, text, mem, list, entries)
 }
 
 fn main(rt: HostRuntime) -> io::Result<()> {
-    replay_in(&rt)
+    let mut text = [0u8; TEXT];
+    let mut mem = [0u64; WORDS];
+    let mut list = [0u8; LIST];
+    let mut entries = [0u64; ENTRIES];
+    let mut input = rt.reader();
+    replay_in(
+        &rt,
+        &mut input,
+        &mut text,
+        &mut mem,
+        &mut list,
+        &mut entries,
+    )
 }

@@ -1,0 +1,9 @@
+-- `amounts::read_full` ends: what is left of the buffer.
+use Rattle.std.proofs.Common.{◌≤◌, ◌-◌, length}
+use Rattle.amounts.proofs.read_full.Given as goal
+
+abbrev pub invariant-loop-n : goal.invariant-loop-n
+invariant-loop-n g l = l.n ≤ length l.buf
+
+abbrev pub decreases-loop-n : goal.decreases-loop-n
+decreases-loop-n g l = length l.buf - l.n
