@@ -7,9 +7,10 @@ use std::path::Path;
 /// that does not occur where the proof says so, or a search that ends without
 /// a proof. All else (a name that is not there, arguments of another number, a
 /// proof that leans on one that fell) says nothing of facts.
-const FACTS: [&str; 10] = [
+const FACTS: [&str; 11] = [
     "as printed, the two ",
     "computed as far as they go, the two ",
+    "computed as a goal is, one side reads ",
     "expected type ",
     "give a proof of that as the last argument",
     "on the face ",
