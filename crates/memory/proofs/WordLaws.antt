@@ -1,15 +1,15 @@
 -- Laws of words: what a store leaves, frames, and groups of four.
 use mathlib.Core.Path.{◌≡◌, refl, ap, ◌∙◌, fun_ext}
-use mathlib.Core.Bool.{Bool, true, false, ◌&&◌}
+use mathlib.Core.Bool.{Bool, true, false}
 use mathlib.Core.List.{List}
 use Prim.Native.Nat.{ℕ, zero, suc, ◌+◌, ◌≤◌, ◌<◌}
 use native.Mathlib.Omega.{arith}
 use lib.ListN.{length, length-set}
 use lib.Seq.{get_or-set_same, get_or-set_other}
-use lib.Dec.{eqb, ltb}
-use borrow.Author.Tests.{eqb-true, eqb-false, ne_eqb, ltb-true, le-ltb}
+use lib.Dec.{ltb}
+use borrow.Author.Tests.{ne_eqb, ltb-true, le-ltb}
 use Rattle.amount.specs.Choose.{◌if◌else◌}
-use Rattle.memory.specs.Words.{word, Stored, Only, seg, Four, same_four, Filled}
+use Rattle.memory.specs.Words.{word, Stored, Only, seg, Four}
 use Rattle.block.specs.Words.{quad}
 
 -- ---- one store ----
@@ -72,26 +72,3 @@ module _ (m m₁ m₂ m₃ m₄ : List ℕ) (at a b c d : ℕ) (fits : at + 4 �
             ∙ stored_other s₂ i (λ e. h (omega arith) (omega arith)) ∙ stored_other s₁ i (λ e. h (omega arith) (omega arith));
         long = stored_long s₄ ∙ l₃ ∙ l₂ ∙ l₁;
       }
-
-pub same_four_lem : (m : List ℕ) (at a b c d : ℕ) (p q r s : Bool) → eqb (word m at) a ≡ p → eqb (word m (at + 1)) b ≡ q → eqb (word m (at + 2)) c ≡ r → eqb (word m (at + 3)) d ≡ s
-    → (p && q && r && s) ≡ same_four (seg m at 4) (quad a b c d)
-same_four_lem m at a b c d p q r s e₀ e₁ e₂ e₃ =
-    let e : eqb (word m (at + 0)) a ≡ p = ap (λ (z : ℕ). eqb (word m z) a) (omega arith) ∙ e₀ in
-    rw (e, e₁, e₂, e₃)
-
--- ---- a stretch filled ----
-
-pub filled_start : (m : List ℕ) (from v : ℕ) → Filled m m from from v
-filled_start m from v = record { is = λ i a b. absurd (omega arith); only = λ i h. refl; long = refl }
-
-pub filled_more : {m m₁ m₂ : List ℕ} {from i v : ℕ} → Filled m m₁ from i v → from ≤ i → i < length m → Stored m₁ m₂ i v → Filled m m₂ from (i + 1) v
-filled_more {m} {m₁} {m₂} {from} {i} {v} f a b s =
-    record {
-      is = λ k c d. at k c d (eqb k i) refl;
-      only = λ k h. stored_other s k (λ e. h (omega arith) (omega arith)) ∙ f.only k (λ x y. h x (omega arith));
-      long = stored_long s ∙ f.long;
-    }
-  where
-    at : (k : ℕ) → from ≤ k → k < i + 1 → (t : Bool) → eqb k i ≡ t → word m₂ k ≡ v
-    at k c d true e = let z : k ≡ i = eqb-true k i e in ap (word m₂) z ∙ stored_same s (omega (arith, f.long))
-    at k c d false e = let z = eqb-false k i e in stored_other s k z ∙ f.is k c (omega arith)

@@ -48,19 +48,7 @@ pub fn same_four(mem: &[u64], at: usize, a: u64, b: u64, c: u64, d: u64) -> bool
     requires { at + 4 ≤ length mem.now }
     ensures { result ≡ same_four (seg mem.now at 4) (quad a b c d) }
 {
-    if mem[at] != a {
-        return false;
-    }
-    if mem[at + 1] != b {
-        return false;
-    }
-    if mem[at + 2] != c {
-        return false;
-    }
-    if mem[at + 3] != d {
-        return false;
-    }
-    true
+    mem[at] == a && mem[at + 1] == b && mem[at + 2] == c && mem[at + 3] == d
 }
 
 // The words from `from` up to `to` become v.
@@ -68,11 +56,7 @@ pub fn fill(mem: &mut [u64], from: usize, to: usize, v: u64)
     requires { (from ≤ to) × (to ≤ length mem.old) }
     ensures { Filled mem.old mem.new from to v }
 {
-    let mut i = from;
-    while i < to {
-        mem[i] = v;
-        i += 1;
-    }
+    mem[from..to].fill(v);
 }
 
 // How many hashes the memory has room for, by its head; 0 for a memory that is not laid out.
@@ -84,19 +68,7 @@ pub fn room(mem: &[u64]) -> usize
     }
     let n = mem[0] as usize;
     let j = mem[1] as usize;
-    if n == 0 {
-        return 0;
-    }
-    if HASH_LIMIT < n {
-        return 0;
-    }
-    if j == 0 {
-        return 0;
-    }
-    if JOURNAL_LIMIT < j {
-        return 0;
-    }
-    if mem.len() < 64 + 81 * n + 8 * j {
+    if n == 0 || HASH_LIMIT < n || j == 0 || JOURNAL_LIMIT < j || mem.len() < 64 + 81 * n + 8 * j {
         return 0;
     }
     n
