@@ -1,8 +1,8 @@
--- Laws of keys: addresses by a stride, a test of four words, and frames.
+-- Laws of keys: a test of four words, and frames.
 use mathlib.Core.Path.{◌≡◌, refl, sym, ap, ◌∙◌, subst}
 use mathlib.Core.Bool.{Bool, true, false, ◌&&◌}
 use mathlib.Core.List.{List}
-use Prim.Native.Nat.{ℕ, ◌+◌, ◌*◌, ◌≤◌, ◌<◌}
+use Prim.Native.Nat.{ℕ, ◌+◌, ◌≤◌, ◌<◌}
 use native.Mathlib.Omega.{arith}
 use borrow.Author.Tests.{eqb-true, eq-eqb}
 use lib.Dec.{eqb}
@@ -12,15 +12,6 @@ use Rattle.memory.specs.Words.{word, seg, same_four, Only}
 use Rattle.memory.specs.Layout.{strided}
 use Rattle.memory.proofs.WordLaws.{seg-quad, seg_same}
 use Rattle.index.specs.Keys.{key_at, Tests}
-
--- where a key lies, by what the slots are
-pub entry_at_lem : (entries : Bool) (x s : ℕ) → entries ≡ true → x < s → (strided entries x ≡ 5 * x) × (5 * x + 5 ≤ strided entries s)
-entry_at_lem true x s e h = (refl, omega arith)
-entry_at_lem false x s e h = no_both false e refl
-
-pub row_at : (entries : Bool) (x s : ℕ) → entries ≡ false → x < s → (strided entries x ≡ 68 * x) × (68 * x + 68 ≤ strided entries s)
-row_at true x s e h = no_both true refl e
-row_at false x s e h = (refl, omega arith)
 
 all_four : (p q r t : Bool) → (p && q && r && t) ≡ true → (p ≡ true) × (q ≡ true) × (r ≡ true) × (t ≡ true)
 all_four true true true true e = (refl, refl, refl, refl)

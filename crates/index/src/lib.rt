@@ -72,8 +72,7 @@ pub fn seek(
     ensures { Seeks mem.now s base (key_at mem.now keys entries) at (quad a b c d) result }
 {
     let mut link = at;
-    let mut i = 0;
-    while i < s {
+    for _ in 0..s {
         let x = memory::place_at(mem, link);
         if s <= x {
             return s;
@@ -82,7 +81,6 @@ pub fn seek(
             return x;
         }
         link = base + s + x;
-        i += 1;
     }
     s
 }
@@ -137,10 +135,7 @@ pub fn unlink(mem: &mut [u64], s: usize, base: usize, x: usize)
 {
     let r = mem[base + 2 * s + x] as usize;
     let q = mem[base + s + x] as usize;
-    if r < base {
-        return;
-    }
-    if base + 2 * s <= r {
+    if r < base || base + 2 * s <= r {
         return;
     }
     mem[r] = q as u64;
