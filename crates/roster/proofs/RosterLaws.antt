@@ -105,18 +105,6 @@ module _ {m m' : List ℕ} {size : ℕ} (n list posn : ℕ) (s : Stored m m' siz
 
 -- ---- add ----
 
-pub added_again : (m : List ℕ) (n list size posn p : ℕ) → is_in m n list size posn p ≡ true → Added m m n list size posn p
-added_again m n list size posn p h =
-    record {
-      within = λ a f g k. refl;
-      long = refl;
-      again = λ e. refl;
-      well = λ w. w;
-      now_in = λ w. h;
-      others = λ w q i ne. refl;
-      more = λ w e. no_both _ h e;
-    }
-
 -- there is no room: a well-formed set has room for a place that it does not have
 pub added_full : (m : List ℕ) (n list size posn p : ℕ) → p < n → is_in m n list size posn p ≡ false → n ≤ size_at m n size → Added m m n list size posn p
 added_full m n list size posn p p<n h f =

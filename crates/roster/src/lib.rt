@@ -37,10 +37,7 @@ pub fn has(mem: &[u64], n: usize, list: usize, size: usize, posn: usize, p: usiz
 {
     let z = count(mem, n, size);
     let i = memory::place_at(mem, posn + 68 * p);
-    if z <= i {
-        return false;
-    }
-    at(mem, n, list, i) == p
+    i < z && at(mem, n, list, i) == p
 }
 
 // Place p becomes a member, the last.
@@ -67,10 +64,7 @@ pub fn drop(mem: &mut [u64], n: usize, list: usize, size: usize, posn: usize, p:
 {
     let z = count(mem, n, size);
     let i = memory::place_at(mem, posn + 68 * p);
-    if z <= i {
-        return;
-    }
-    if at(mem, n, list, i) != p {
+    if z <= i || at(mem, n, list, i) != p {
         return;
     }
     let q = at(mem, n, list, z - 1);

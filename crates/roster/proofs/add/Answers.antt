@@ -1,26 +1,14 @@
 -- `roster::add` meets its contract: nothing, where the place is a member or there is no room; else three stores.
 use mathlib.Core.Path.{refl, sym, ◌∙◌}
 use native.Mathlib.Omega.{arith}
-use lib.ListN.{length-set}
-use Rattle.roster.proofs.RosterLaws.{added_again, added_full, added_done}
+use Rattle.roster.proofs.RosterLaws.{added_full, added_done}
 use Rattle.roster.proofs.add.Goals as goal
-
-pub returns-then-has : goal.returns-then-has
-returns-then-has c =
-    let a = c.args in
-    added_again a.mem.now a.n a.list a.size a.posn a.p (sym c.has.ensures ∙ c.if-has.true)
 
 pub returns-then-n-z : goal.returns-then-n-z
 returns-then-n-z c =
     let a = c.args in
     added_full a.mem.now a.n a.list a.size a.posn a.p c.requires.0 (sym c.has.ensures ∙ c.if-has.false)
     (omega (arith, c.count-z.ensures.is))
-
-pub bounds-mem-posn : goal.bounds-mem-posn
-bounds-mem-posn c = simp length-set (omega arith)
-
-pub bounds-mem-size : goal.bounds-mem-size
-bounds-mem-size c = simp length-set (omega arith)
 
 pub returns : goal.returns
 returns c =
