@@ -1,6 +1,6 @@
 -- Laws of entries: a hash is four words, two last touches of one hash are the same, and what must stay for the journal to stay.
 use mathlib.Core.Path.{◌≡◌, refl, sym, ap, ◌∙◌, subst}
-use mathlib.Core.Bool.{true, not}
+use mathlib.Core.Bool.{true}
 use mathlib.Core.Logic.{◌⊎◌, inl, inr}
 use mathlib.Core.List.{List}
 use Prim.Native.Nat.{ℕ, ◌+◌, ◌*◌, ◌≤◌, ◌<◌}
@@ -18,7 +18,7 @@ use Rattle.memory.proofs.WordLaws.{seg_same}
 use Rattle.index.specs.Keys.{key_at}
 use Rattle.index.proofs.ListFacts.{below_or}
 use Rattle.index.proofs.IndexLaws.{keyed_frame}
-use Rattle.journal.specs.Journal.{tab, joined, entry_at, later_at, slot_of, touched_at, journal_of, last_at, Last, Indexed, Journaled}
+use Rattle.journal.specs.Journal.{tab, joined, entry_at, later_at, slot_of, touched_at, journal_of, Last, Indexed, Journaled}
 use Rattle.journal.specs.Changes.{Aged}
 use Rattle.journal.proofs.TabLaws.{tab_same, tab-elem}
 use Rattle.journal.proofs.RingLaws.{back_below}
@@ -112,9 +112,6 @@ module _ (m m' : List ℕ) (n : ℕ) (e₁ : word m' 1 ≡ word m 1) (e₄ : wor
 module _ (m : List ℕ) (n i r : ℕ) (g : Aged m i r) (w : Journaled m n) (l : i < word m 4) where
   aged : r ≡ slot_of m i
   aged = let s = w.short in g.is w.turn (omega arith)
-
-  pub aged_flag : not (later_at m n r) ≡ last_at m n i
-  aged_flag = ap (λ (z : ℕ). not (later_at m n z)) aged
 
   pub aged_hash : (a b c d : ℕ) → seg m (ring n + 5 * r) 4 ≡ quad a b c d → join a b c d ≡ touched_at m n i
   aged_hash a b c d e = sym (joined-quad a b c d) ∙ ap joined (sym e) ∙ ap (entry_at m n) aged

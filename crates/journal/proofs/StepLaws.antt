@@ -5,10 +5,7 @@ use mathlib.Core.Logic.{◌⊎◌, inl, inr}
 use mathlib.Core.List.{List, []}
 use Prim.Native.Nat.{ℕ, ◌+◌, ◌*◌, ◌≤◌, ◌<◌}
 use native.Mathlib.Omega.{arith}
-use lib.Dec.{eqb, ltb}
-use lib.ListN.{length}
-use Rattle.amount.specs.Choose.{◌if◌else◌}
-use Rattle.model.specs.Numbers.{max_word}
+use lib.Dec.{eqb}
 use Rattle.model.proofs.Tools.{no_both}
 use Rattle.memory.specs.Words.{word, Stored, Four}
 use Rattle.memory.specs.Layout.{ring, by_touch, Laid}
@@ -18,14 +15,11 @@ use Rattle.index.specs.Index.{Keyed}
 use Rattle.index.specs.Writes.{Cleared, Linked, Unlinked}
 use Rattle.index.proofs.IndexLaws.{keyed_frame, keyed_insert, keyed_remove, index_clear}
 use Rattle.journal.specs.Journal.{tab, later_at, slot_of, touched_at, Last, Indexed}
-use Rattle.journal.specs.Steps.{Roomy, Forgets, Enters, Counted}
+use Rattle.journal.specs.Steps.{Roomy, Forgets, Enters}
 use Rattle.journal.specs.Touches.{Clears}
 use Rattle.journal.proofs.EntryLaws.{slot_same, entry_same}
 
 -- ---- a slot is forgotten ----
-
-pub forget_none : (m : List ℕ) (n j e : ℕ) → j ≤ e → Forgets m m n j e
-forget_none m n j e h = record { long = refl; flag = λ l. absurd (omega arith); only = λ i x y. refl; index = λ l x. x }
 
 module _ (m m₁ m' : List ℕ) (n j e : ℕ) (l : e < j) (fits : Roomy m n j)
     (s : Stored m m₁ (ring n + 5 * e + 4) 1) (u : Unlinked m₁ m' j (by_touch n j) e) where
@@ -101,32 +95,6 @@ module _ (m m₁ m₂ m' : List ℕ) (n j at a b c d : ℕ) (l : at < j) (fits :
         index = λ new x.
             keyed_insert m₂ m' j (by_touch n j) (key_at m₂ (ring n) true) (key_at m' (ring n) true) (Last m n) (λ q. Last m n q ⊎ (q ≡ at))
             (λ q h v. key_same q h) (written new x) at l (key_same at l) new k (λ q h v. inl v) (inr refl) (λ q h v. v);
-      }
-
--- ---- one more ----
-
-module _ (m m₁ m₂ m₃ m₄ m' : List ℕ) (j at v g p : ℕ) (fits : 8 ≤ length m)
-    (version : (word m 3 ≡ max_word → ⊥) → v ≡ word m 3 + 1) (len : g ≡ (word m 4 + 1 if ltb (word m 4) j else word m 4))
-    (turn : p ≡ (at + 1 if ltb (at + 1) j else 0))
-    (s₁ : Stored m m₁ 3 v) (s₂ : Stored m₁ m₂ 4 g) (s₃ : Stored m₂ m₃ 5 p) (s₄ : Stored m₃ m₄ 6 0) (s₅ : Stored m₄ m' 7 0) where
-  pub count_done : Counted m m' j at
-  count_done =
-      let l₁ = stored_long s₁ in
-      let l₂ = stored_long s₂ in
-      let l₃ = stored_long s₃ in
-      let l₄ = stored_long s₄ in
-      record {
-        long = stored_long s₅ ∙ l₄ ∙ l₃ ∙ l₂ ∙ l₁;
-        version = λ h. stored_other s₅ 3 (omega arith) ∙ stored_other s₄ 3 (omega arith) ∙ stored_other s₃ 3 (omega arith) ∙ stored_other s₂ 3 (omega arith)
-            ∙ stored_same s₁ (omega arith) ∙ version h ∙ omega arith;
-        len = stored_other s₅ 4 (omega arith) ∙ stored_other s₄ 4 (omega arith) ∙ stored_other s₃ 4 (omega arith) ∙ stored_same s₂ (omega arith) ∙ len;
-        turn = stored_other s₅ 5 (omega arith) ∙ stored_other s₄ 5 (omega arith) ∙ stored_same s₃ (omega arith) ∙ turn;
-        loading = stored_other s₅ 6 (omega arith) ∙ stored_same s₄ (omega arith);
-        fresh = stored_same s₅ (omega arith);
-        only = λ i h.
-            stored_other s₅ i (λ z. h (omega arith) (omega arith)) ∙ stored_other s₄ i (λ z. h (omega arith) (omega arith))
-            ∙ stored_other s₃ i (λ z. h (omega arith) (omega arith)) ∙ stored_other s₂ i (λ z. h (omega arith) (omega arith))
-            ∙ stored_other s₁ i (λ z. h (omega arith) (omega arith));
       }
 
 -- ---- the journal is emptied ----

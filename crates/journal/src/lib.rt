@@ -73,10 +73,7 @@ fn overwritten(mem: &[u64], n: usize, j: usize, at: usize) -> usize
     requires { (at < j) × Roomy mem.now n j }
     ensures { result ≡ overwritten_at mem.now n j at }
 {
-    if (mem[4] as usize) < j {
-        return j;
-    }
-    if mem[64 + 81 * n + 5 * at + 4] == 1 {
+    if (mem[4] as usize) < j || mem[64 + 81 * n + 5 * at + 4] == 1 {
         return j;
     }
     at
@@ -217,12 +214,10 @@ fn count_last(mem: &[u64], n: usize, k: usize) -> usize
     ensures { Journaled mem.now n → k ≤ word mem.now 4 → result ≡ length (lasts (touched_at mem.now n) k) }
 {
     let mut r = 0;
-    let mut i = 0;
-    while i < k {
+    for i in 0..k {
         if is_last(mem, n, i) {
             r += 1;
         }
-        i += 1;
     }
     r
 }
@@ -232,13 +227,7 @@ pub fn changes_had(mem: &[u64], n: usize, g: u64, v: u64) -> Had
     requires { Laid mem.now n }
     ensures { Journaled mem.now n → result ≡ had_of (changes_of mem.now n g v) }
 {
-    if g != mem[2] {
-        return Had::None;
-    }
-    if mem[3] < v {
-        return Had::None;
-    }
-    if mem[4] < mem[3] - v {
+    if g != mem[2] || mem[3] < v || mem[4] < mem[3] - v {
         return Had::None;
     }
     let k = later(mem, n, v);
@@ -250,10 +239,9 @@ pub fn write_changes(mem: &[u64], n: usize, v: u64, list: &mut [u8])
     requires { Laid mem.now n }
     ensures { Writes mem.now n v list.old list.new }
 {
-    let mut i = later(mem, n, v);
+    let k = later(mem, n, v);
     let mut at = 0;
-    while 0 < i {
-        i -= 1;
+    for i in (0..k).rev() {
         if is_last(mem, n, i) {
             if list.len() - at < 32 {
                 return;

@@ -1,18 +1,7 @@
 -- `journal::clear` meets its contract: two stores, and an index emptied.
-use lib.ListN.{length-set}
-use native.Mathlib.Omega.{arith}
-use mathlib.Core.Path.{refl, ◌∙◌}
+use mathlib.Core.Path.{refl}
 use Rattle.journal.proofs.StepLaws.{clear_done}
 use Rattle.journal.proofs.clear.Goals as goal
-
-pub bounds-mem-5 : goal.bounds-mem-5
-bounds-mem-5 c = simp length-set (omega arith)
-
-pub clear-requires : goal.clear-requires
-clear-requires c = simp length-set (omega arith)
-
-pub shape_of-mem : goal.shape_of-mem
-shape_of-mem c = c.clear.auto.mem ∙ simp length-set
 
 pub returns : goal.returns
 returns c =

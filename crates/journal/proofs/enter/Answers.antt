@@ -1,15 +1,8 @@
 -- `journal::enter` meets its contract: four words, the flag, and a linking.
-use lib.ListN.{length-set}
 use native.Mathlib.Omega.{arith}
-use mathlib.Core.Path.{refl, ◌∙◌}
+use mathlib.Core.Path.{refl}
 use Rattle.journal.proofs.StepLaws.{enter_done}
 use Rattle.journal.proofs.enter.Goals as goal
-
-pub link-requires : goal.link-requires
-link-requires c = (omega arith, simp length-set (omega arith), simp length-set (omega arith))
-
-pub shape_of-mem : goal.shape_of-mem
-shape_of-mem c = c.link.auto.mem ∙ (simp length-set) ∙ c.four.auto.mem
 
 pub returns : goal.returns
 returns c =

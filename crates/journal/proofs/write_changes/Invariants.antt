@@ -3,7 +3,4 @@ use Rattle.journal.proofs.ChangesLaws.{Writing}
 use Rattle.journal.proofs.write_changes.Given as goal
 
 abbrev pub invariant-loop-i : goal.invariant-loop-i
-invariant-loop-i l = Writing l.mem l.n l.initial.i l.i l.at l.initial.list l.list
-
-abbrev pub decreases-loop-i : goal.decreases-loop-i
-decreases-loop-i l = l.i
+invariant-loop-i l = Writing l.mem l.n l.k l.i l.at l.initial.list l.list
