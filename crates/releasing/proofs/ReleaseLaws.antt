@@ -76,16 +76,6 @@ pub record Walked (m₀ m : List ℕ) (n i : ℕ) : Type 0 where
   pub same : (q : ℕ) → released (cells_of m n q) ≡ released (cells_of m₀ n q)
   pub passed : (j : ℕ) → j < i → released (cells_of m n (member m n j)) ≡ cells_of m n (member m n j)
 
-pub walk_start : (m : List ℕ) (n : ℕ) → Laid m n → Walked m m n 0
-walk_start m n l = record {
-  laid = l;
-  long = refl;
-  only = λ a x y z. refl;
-  sound = λ s. s;
-  same = λ q. refl;
-  passed = λ j h. absurd (omega arith);
-}
-
 module _ (m₀ m m' : List ℕ) (n i p : ℕ) (w : Walked m₀ m n i) (at : Member m n (vacant_at n) i p) (s : Settles m m' n p) where
   same_member : (j : ℕ) → member m' n j ≡ member m n j
   same_member j = let b = at.below in member_kept m m' n j (s.only.words (vacant_at n + j) (omega arith) (omega arith) (omega arith))

@@ -5,7 +5,6 @@ use mathlib.Core.List.{List}
 use mathlib.Core.Option.{Option, none, some}
 use Prim.Native.Nat.{ℕ, ◌+◌, ◌*◌, ◌≤◌, ◌<◌}
 use native.Mathlib.Omega.{arith}
-use lib.ListN.{length}
 use lib.Dec.{eqb}
 use borrow.Author.Tests.{eqb-true, eq-eqb, ne_eqb}
 use Rattle.model.specs.Record.{Header, Copy}
@@ -212,16 +211,6 @@ module _ (m m₁ m₂ m₃ m₄ : List ℕ) (n p : ℕ) (laid : Laid m n) (p<n :
 
   pub vacate_done : Vacates m m₄ n p
   vacate_done = record { only = only; cells = cells; sound = λ s e f. sound s (cell_used m n p e).1 f }
-
--- what stands before the contest is updated
-pub vacate_laid : {m m₁ m₂ m₃ : List ℕ} {n p : ℕ} → Laid m n → Unlinked m m₁ n (by_hash n) p → Unlinked m₁ m₂ n (by_prev n) p → Stored m₂ m₃ (row p) 0 → Laid m₃ n
-vacate_laid {m} {m₁} {m₂} {m₃} {n} {p} l x y z =
-    laid_same m m₃ n l (stored_other z 0 (omega arith) ∙ y.only 0 (omega arith) ∙ x.only 0 (omega arith))
-    (stored_other z 1 (omega arith) ∙ y.only 1 (omega arith) ∙ x.only 1 (omega arith)) (stored_long z ∙ y.long ∙ x.long)
-
-pub vacate_long : {m m₁ m₂ m₃ m₄ : List ℕ} {n p : ℕ} → Unlinked m m₁ n (by_hash n) p → Unlinked m₁ m₂ n (by_prev n) p → Stored m₂ m₃ (row p) 0 → Updated n 3 p m₃ m₄
-    → length m₄ ≡ length m
-vacate_long x y z u = u.long ∙ stored_long z ∙ y.long ∙ x.long
 
 -- ---- a place that is looked at ----
 

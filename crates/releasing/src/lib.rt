@@ -23,13 +23,9 @@ fn settle(mem: &mut [u64], n: usize, p: usize)
     ensures { Settles mem.old mem.new n p }
 {
     let at = 64 + 68 * p;
-    if mem[at] != 1 {
-        return;
+    if mem[at] == 1 && places::status(mem, at) == 0 {
+        vacate(mem, n, p);
     }
-    if places::status(mem, at) != 0 {
-        return;
-    }
-    vacate(mem, n, p);
 }
 
 // Frees room where no store holds the hash any more: a walk over the places that removals listed, and no other. The list is read while it is
@@ -39,11 +35,9 @@ pub fn release(mem: &mut [u64], n: usize)
     ensures { Releases mem.old mem.new n }
 {
     let z = roster::count(mem, n, 15);
-    let mut i = 0;
-    while i < z {
+    for i in 0..z {
         let p = roster::at(mem, n, 64 + 80 * n, i);
         settle(mem, n, p);
-        i += 1;
     }
     roster::clear(mem, 15);
 }

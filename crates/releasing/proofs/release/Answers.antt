@@ -1,9 +1,6 @@
 -- `releasing::release` meets its contract: the loop has looked at the first i of the listed places.
-use Rattle.releasing.proofs.ReleaseLaws.{walk_start, walk_more, walk_done}
+use Rattle.releasing.proofs.ReleaseLaws.{walk_more, walk_done}
 use Rattle.releasing.proofs.release.Goals as goal
-
-pub loop-i-init : goal.loop-i-init
-loop-i-init c = walk_start _ _ c.requires
 
 pub loop-i-preserved : goal.loop-i-preserved
 loop-i-preserved c = walk_more _ _ _ _ _ _ c.loop-i.invariant c.at-p.ensures c.settle.ensures
