@@ -51,11 +51,6 @@ module _ (m m' : List ℕ) (n i : ℕ) (t : Bool) (tells : Journaled m n → i <
   last_is : (b : Bool) → t ≡ b → SoundAt m n → i < word m 4 → last_at m n i ≡ b
   last_is b e s l = sym (tells s.journal l) ∙ e
 
-  pub entry_old : t ≡ false → EntryAdded m m n i
-  entry_old e =
-      turns_none m n (i < word m 4) (λ pend q. pend q || (last_at m n i && has_room (touched_at m n i) (cells_of m n q)))
-      (λ s l pend q h. rw (last_is false e s l) (sym (or_none (pend q))))
-
   module _ (x r : ℕ) (is : t ≡ true) (reads : Journaled m n → i < word m 4 → x ≡ touched_at m n i)
       (finds : SoundAt m n → place_of (view_at m n).holdings x ≡ placed n r) where
     found_of : SoundAt m n → i < word m 4 → place_of (view_at m n).holdings (touched_at m n i) ≡ placed n r

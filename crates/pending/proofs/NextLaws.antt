@@ -48,9 +48,6 @@ module _ (m : List ℕ) (n p : ℕ) where
   pub turn_live : p < n → is_live (cells_of m n p) ≡ true → word m (row p + 12) ≡ turn_of (cells_of m n p)
   turn_live p<n e = rw e (sym (index_is p<n (live_used e)))
 
-  pub turn_other : is_live (cells_of m n p) ≡ false → 0 ≡ turn_of (cells_of m n p)
-  turn_other e = rw e
-
 -- ---- whose turn is next ----
 
 -- two that no one of them goes before the other have one hash

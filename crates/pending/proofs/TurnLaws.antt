@@ -1,5 +1,5 @@
 -- Steps of the contest of turns, one after another; and live blocks that become pending, one or all.
-use mathlib.Core.Path.{◌≡◌, refl, sym, ap, ◌∙◌}
+use mathlib.Core.Path.{◌≡◌, refl, ap}
 use mathlib.Core.Bool.{Bool, true, false, ◌&&◌, ◌||◌}
 use mathlib.Core.List.{List}
 use Prim.Native.Nat.{ℕ, ◌+◌, ◌≤◌, ◌<◌}
@@ -8,7 +8,7 @@ use lib.Dec.{eqb, ltb}
 use borrow.Author.Tests.{eqb-true, eqb-false, ltb-true, ltb-false, lt-ltb, le-ltb}
 use Rattle.model.specs.Holding.{Cell, is_live}
 use Rattle.model.specs.Relink.{Pending}
-use Rattle.model.proofs.Tools.{by_bool, or_none}
+use Rattle.model.proofs.Tools.{by_bool}
 use Rattle.memory.specs.Layout.{Laid}
 use Rattle.state.specs.View.{cells_of}
 use Rattle.state.specs.Sound.{Used, SoundAt}
@@ -59,20 +59,11 @@ module _ (m m' : List ℕ) (n p : ℕ) where
       test : (q : ℕ) → eqb q p ≡ (eqb q p && is_live (cells_of m n q))
       test q = by_bool (eqb q p) (λ i. let z : q ≡ p = eqb-true q p i in rw (i, z, e)) (λ i. rw i)
 
-pub one_not : (m : List ℕ) (n p : ℕ) → is_live (cells_of m n p) ≡ false → Turns m m n (Unit {0}) (λ pend q. pend q || (eqb q p && is_live (cells_of m n q)))
-one_not m n p e =
-    turns_none m n (Unit {0}) (λ pend q. pend q || (eqb q p && is_live (cells_of m n q)))
-    (λ s u pend q h. sym (or_none (pend q)) ∙ ap (λ (b : Bool). pend q || b) (by_bool (eqb q p) (λ i. let z : q ≡ p = eqb-true q p i in rw (i, z, e)) (λ i. rw i)))
-
 -- ---- every live block ----
 
 -- those below i
 abbrev pub LiveBelow : List ℕ → List ℕ → ℕ → ℕ → Type 0
 LiveBelow m m' n i = Turns m m' n (Unit {0}) (λ pend q. pend q || (ltb q i && is_live (cells_of m n q)))
-
-pub live_start : (m : List ℕ) (n : ℕ) → LiveBelow m m n 0
-live_start m n =
-    turns_none m n (Unit {0}) (λ pend q. pend q || (ltb q 0 && is_live (cells_of m n q))) (λ s u pend q h. rw (le-ltb q 0 (omega arith)) (sym (or_none (pend q))))
 
 pub or_swap : (u v : Bool) → (u || v) ≡ (v || u)
 or_swap true true = refl

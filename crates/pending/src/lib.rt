@@ -73,8 +73,7 @@ pub fn follow(mem: &mut [u64], n: usize, p: usize)
 {
     let h = memory::read_four(mem, 64 + 68 * p + 4);
     let mut x = index::find(mem, n, 64 + 71 * n, 72, false, h.a, h.b, h.c, h.d);
-    let mut i = 0;
-    while i < n {
+    for _ in 0..n {
         if n <= x {
             return;
         }
@@ -91,7 +90,6 @@ pub fn follow(mem: &mut [u64], n: usize, p: usize)
             h.c,
             h.d,
         );
-        i += 1;
     }
 }
 
@@ -100,10 +98,8 @@ pub fn add_live(mem: &mut [u64], n: usize)
     requires { Laid mem.old n }
     ensures { Turns mem.old mem.new n (Unit {0}) (λ pend q. pend q || is_live (cells_of mem.old n q)) }
 {
-    let mut p = 0;
-    while p < n {
+    for p in 0..n {
         add_if_live(mem, n, p);
-        p += 1;
     }
 }
 
@@ -127,9 +123,7 @@ pub fn add_changed(mem: &mut [u64], n: usize, v: u64)
     ensures { (g : ℕ) (l : List ℕ) → Turns mem.old mem.new n (changes_of mem.old n g v ≡ some l) (λ pend q. pend q || changed_in l (cells_of mem.old n q)) }
 {
     let k = journal::later(mem, n, v);
-    let mut i = 0;
-    while i < k {
+    for i in 0..k {
         add_entry(mem, n, i);
-        i += 1;
     }
 }

@@ -1,10 +1,6 @@
 -- `pending::add_changed` meets its contract. The loop has added the hashes of the i newest entries.
-use Prim.Native.Nat.{◌-◌, ◌≤◌}
 use Rattle.pending.proofs.ChangedLaws.{NewestAdded}
 use Rattle.pending.proofs.add_changed.Given as goal
 
 abbrev pub invariant-loop-i : goal.invariant-loop-i
-invariant-loop-i l = (l.i ≤ l.k) × NewestAdded l.initial.mem l.mem l.n l.k l.i
-
-abbrev pub decreases-loop-i : goal.decreases-loop-i
-decreases-loop-i l = l.k - l.i
+invariant-loop-i l = NewestAdded l.initial.mem l.mem l.n l.k l.i

@@ -1,11 +1,7 @@
 -- `pending::drop` meets its contract.
 use mathlib.Core.Path.{refl}
-use native.Mathlib.Omega.{arith}
-use Rattle.pending.proofs.PendLaws.{drop_stores, laid_stored}
+use Rattle.pending.proofs.PendLaws.{drop_stores}
 use Rattle.pending.proofs.drop.Goals as goal
-
-pub update-requires : goal.update-requires
-update-requires c = record { laid = laid_stored (omega arith) (record { now_is = refl }) c.requires.0; bounds = (omega arith, c.requires.1) }
 
 pub returns : goal.returns
 returns c =
