@@ -1,4 +1,4 @@
--- One value of a place is put: if it is the same nothing is done, else it is written and its contest played again.
+-- The canonical value of a place is put, where it is another: it is written, and its contest played again.
 use mathlib.Core.Path.{◌≡◌, refl, sym, ap, ◌∙◌}
 use mathlib.Core.Bool.{Bool, true, false, not}
 use mathlib.Core.List.{List}
@@ -6,8 +6,6 @@ use Prim.Native.Nat.{ℕ, ◌+◌, ◌≤◌, ◌<◌}
 use native.Mathlib.Omega.{arith}
 use Rattle.model.specs.Standing as model
 use Rattle.model.specs.Relink.{same}
-use Rattle.model.proofs.Tools.{no_both}
-use Rattle.model.proofs.Turn.{same_true}
 use Rattle.memory.specs.Words.{seg}
 use Rattle.memory.specs.Layout.{row, nodes, Laid}
 use Rattle.memory.proofs.WordLaws.{seg_same}
@@ -17,50 +15,14 @@ use Rattle.rows.specs.Rows.{value_of}
 use Rattle.state.proofs.SoundLaws.{laid_same}
 use Rattle.values.specs.Values.{value_means, Written}
 use Rattle.values.specs.declared.Value.{Value}
-use Rattle.kin.specs.Relinked.{Relinked}
-use Rattle.relink.specs.Turned.{PutWinner, PutCanonical}
+use Rattle.relink.specs.Turned.{PutCanonical}
 
 -- what a comparison with the value read tells
 module _ (x : model.Value) (old v : Value) (is : value_means old ≡ x) (r : Bool) (e : r ≡ same (value_means old) (value_means v)) where
   told : not r ≡ not (same x (value_means v))
   told = ap not (e ∙ ap (λ (z : model.Value). same z (value_means v)) is)
 
-  is_same : r ≡ true → x ≡ value_means v
-  is_same t = sym is ∙ same_true (value_means old) (value_means v) (sym e ∙ t)
-
-module _ (m : List ℕ) (n p q : ℕ) (old v : Value) (is : value_means old ≡ value_of (seg m (row p + 56) 3)) (r : Bool) (e : r ≡ same (value_means old) (value_means v)) where
-  pub winner_idle : r ≡ true → PutWinner m m n p q v false
-  winner_idle t = record {
-    told = ap not (sym t) ∙ told (value_of (seg m (row p + 56) 3)) old v is r e;
-    idle = λ _. refl;
-    up = λ f. no_both false f refl;
-    only = record { long = refl; head = λ a x y. refl; rows = λ q k h x a b c d. refl; indexes = λ a x y. refl; contests = λ a x y. refl; rest = λ a x. refl };
-    value = is_same (value_of (seg m (row p + 56) 3)) old v is r e t;
-    kin = λ k. k;
-    ranks = λ w. w;
-  }
-
-  pub winner_put : (m' : List ℕ) → r ≡ false → Relinked m m' n p q v → PutWinner m m' n p q v true
-  winner_put m' f k = record {
-    told = ap not (sym f) ∙ told (value_of (seg m (row p + 56) 3)) old v is r e;
-    idle = λ g. no_both true refl g;
-    up = λ _. k.up;
-    only = k.only;
-    value = k.value;
-    kin = k.kin;
-    ranks = k.ranks;
-  }
-
 module _ (m : List ℕ) (n p : ℕ) (old v : Value) (is : value_means old ≡ value_of (seg m (row p + 60) 3)) (r : Bool) (e : r ≡ same (value_means old) (value_means v)) where
-  pub canonical_idle : r ≡ true → PutCanonical m m n p v false
-  canonical_idle t = record {
-    told = ap not (sym t) ∙ told (value_of (seg m (row p + 60) 3)) old v is r e;
-    long = refl;
-    only = λ a x y. refl;
-    value = is_same (value_of (seg m (row p + 60) 3)) old v is r e t;
-    ranks = λ w. w;
-  }
-
   module _ (m₁ m₂ : List ℕ) (p<n : p < n) (w : Written m m₁ (row p + 60) v) (u : Updated n 1 p m₁ m₂) where
     but : SameBut n 1 p m m₁
     but = record {

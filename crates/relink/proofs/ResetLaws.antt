@@ -27,9 +27,6 @@ use Rattle.relink.specs.Turned.{ValueOnly}
 use Rattle.relink.specs.Gathers.{Wiped, Resets}
 use Rattle.relink.proofs.TreedLaws.{listless_same}
 
-pub wiped_laid : (m m' : List ℕ) (n : ℕ) → Laid m n → Wiped m m' n → Laid m' n
-wiped_laid m m' n l w = laid_same m m' n l (w.only 0 (λ q h e. omega arith) (λ q h e. omega arith) (λ q h e. omega arith)) (w.only 1 (λ q h e. omega arith) (λ q h e. omega arith) (λ q h e. omega arith)) w.long
-
 pub stored_laid : (m m' : List ℕ) (n a v : ℕ) → Laid m n → 2 ≤ a → Stored m m' a v → Laid m' n
 stored_laid m m' n a v l h s = laid_same m m' n l (stored_other s 0 (λ e. omega arith)) (stored_other s 1 (λ e. omega arith)) (stored_long s)
 

@@ -1,5 +1,5 @@
 -- The rows below p have been wiped.
-use mathlib.Core.Path.{◌≡◌, refl, ◌∙◌}
+use mathlib.Core.Path.{◌≡◌, ◌∙◌}
 use mathlib.Core.List.{List}
 use Prim.Native.Nat.{ℕ, ◌+◌, ◌≤◌, ◌<◌}
 use native.Mathlib.Omega.{arith}
@@ -19,9 +19,6 @@ pub record Wiping (m₀ m : List ℕ) (n p : ℕ) : Type 0 where
   pub canonical : (q : ℕ) → q < p → word m (row q + 60) ≡ 0
   pub kids : (q : ℕ) → q < p → word m (row q + 64) ≡ 0
   pub only : (a : ℕ) → ((q : ℕ) → q < p → a ≡ row q + 56 → ⊥) → ((q : ℕ) → q < p → a ≡ row q + 60 → ⊥) → ((q : ℕ) → q < p → a ≡ row q + 64 → ⊥) → word m a ≡ word m₀ a
-
-pub wiping_start : (m : List ℕ) (n : ℕ) → Wiping m m n 0
-wiping_start m n = record { below = omega arith; long = refl; winner = λ q h. absurd (omega arith); canonical = λ q h. absurd (omega arith); kids = λ q h. absurd (omega arith); only = λ a f g h. refl }
 
 module _ (m₀ m m₁ m₂ m₃ : List ℕ) (n p : ℕ) (w : Wiping m₀ m n p) (p<n : p < n) (fits : row p + 68 ≤ length m₀)
     (s₁ : Stored m m₁ (row p + 56) 0) (s₂ : Stored m₁ m₂ (row p + 60) 0) (s₃ : Stored m₂ m₃ (row p + 64) 0) where

@@ -49,10 +49,7 @@ fn work_out(mem: &mut [u64], n: usize, p: usize) -> bool
     let b = standing::work_out(mem, n, p, q, true);
     let moved = put_winner(mem, n, p, q, a);
     let shifted = put_canonical(mem, n, p, b);
-    if moved {
-        return true;
-    }
-    shifted
+    moved || shifted
 }
 
 pub fn turn(mem: &mut [u64], n: usize, p: usize)
@@ -73,17 +70,12 @@ pub fn settle(mem: &mut [u64], n: usize)
     requires { Laid mem.old n }
     ensures { Settles mem.old mem.new n }
 {
-    let mut left = n * n + n;
-    while 0 < left {
+    for _ in 0..n * n + n {
         let p = pending::first(mem, n);
-        if n <= p {
-            return;
-        }
-        if mem[64 + 68 * p + 59] == 0 {
+        if n <= p || mem[64 + 68 * p + 59] == 0 {
             return;
         }
         turn(mem, n, p);
-        left -= 1;
     }
 }
 
@@ -94,12 +86,10 @@ fn wipe(mem: &mut [u64], n: usize)
     requires { Laid mem.old n }
     ensures { Wiped mem.old mem.new n }
 {
-    let mut p = 0;
-    while p < n {
+    for p in 0..n {
         mem[64 + 68 * p + 56] = 0;
         mem[64 + 68 * p + 60] = 0;
         mem[64 + 68 * p + 64] = 0;
-        p += 1;
     }
 }
 
@@ -134,13 +124,7 @@ pub fn gather(mem: &mut [u64], n: usize)
     }
     let v = mem[10];
     match journal::changes_had(mem, n, mem[9], v) {
-        Had::None => {
-            rebuild(mem, n);
-            return;
-        }
-        Had::Count(_) => {
-            pending::add_changed(mem, n, v);
-            return;
-        }
+        Had::None => rebuild(mem, n),
+        Had::Count(_) => pending::add_changed(mem, n, v),
     }
 }

@@ -1,13 +1,6 @@
 -- `relink::turn` meets its contract.
-use Rattle.pending.proofs.TurnLaws.{pend_laid}
-use Rattle.relink.proofs.TurnLaws.{turn_laid, turn_idle, turn_moved}
+use Rattle.relink.proofs.TurnLaws.{turn_idle, turn_moved}
 use Rattle.relink.proofs.turn.Goals as goal
-
-pub work_out-requires : goal.work_out-requires
-work_out-requires c = (pend_laid _ _ _ c.requires.0 c.drop.ensures.only, c.requires.1)
-
-pub follow-requires : goal.follow-requires
-follow-requires c = (turn_laid _ _ _ _ _ _ c.requires.0 c.requires.1 c.drop.ensures c.work_out.ensures, c.requires.1)
 
 pub returns-then-work_out : goal.returns-then-work_out
 returns-then-work_out c = turn_moved _ _ _ _ _ _ c.requires.0 c.requires.1 c.drop.ensures c.work_out.ensures _ c.follow.ensures c.if-work_out.true

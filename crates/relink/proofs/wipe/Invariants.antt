@@ -1,10 +1,6 @@
 -- `relink::wipe` meets its contract: the rows below p have been wiped.
-use Prim.Native.Nat.{◌-◌}
 use Rattle.relink.proofs.WipeLaws.{Wiping}
 use Rattle.relink.proofs.wipe.Given as goal
 
 abbrev pub invariant-loop-p : goal.invariant-loop-p
 invariant-loop-p l = Wiping l.initial.mem l.mem l.n l.p
-
-abbrev pub decreases-loop-p : goal.decreases-loop-p
-decreases-loop-p l = l.n - l.p
