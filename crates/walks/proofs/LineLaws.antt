@@ -115,5 +115,5 @@ module _ (m m₁ m₂ : List ℕ) (n top q k : ℕ) (c : Noting m m₁ n top q k
         w_long e = sym ((c.right s).long ∙ ap (λ (t : List ℕ). k + length t) e)
 
 -- n places are noted and one is left: no walk is so long
-pub noting_out : (m m' : List ℕ) (n top q k : ℕ) → Noting m m' n top q k → n ≤ k → SoundAt m n → Lined m' n top k
+pub noting_out : (m m' : List ℕ) (n top q k : ℕ) → Noting m m' n top q k → n ≤ k → SoundAt m n → Lined m' n top n
 noting_out m m' n top q k c i s = absurd (omega (arith, (c.right s).long, walk_some (view_at m n).holdings q, room_most m n top c.top_low))
