@@ -4,7 +4,7 @@ use mathlib.Core.Path.{◌≡◌, refl, sym, ap, ◌∙◌}
 use mathlib.Core.Bool.{true, false}
 use mathlib.Core.List.{List, [], ◌∷◌}
 use mathlib.Core.Option.{none, some}
-use Prim.Native.Nat.{ℕ, ◌+◌, ◌-◌, ◌≤◌, ◌<◌}
+use Prim.Native.Nat.{ℕ, ◌+◌, ◌≤◌, ◌<◌}
 use native.Mathlib.Omega.{arith}
 use lib.Dec.{eqb, ltb}
 use lib.ListN.{length}
@@ -60,28 +60,28 @@ unfolding view_at
 view_cell m n q = refl
 
 -- the blocks before q are written: with those that are above f on q's walk, they are all
-pub record Reached (m₀ m : List ℕ) (n top f q left : ℕ) (c : ℕ → ℕ → ℕ) : Type 0 where
+pub record Reached (m₀ m : List ℕ) (n top f q steps : ℕ) (c : ℕ → ℕ → ℕ) : Type 0 where
   pub live : is_live (cells_of m₀ n q) ≡ true
-  pub most : length (walk (view_at m₀ n).holdings q) ≤ left
+  pub most : length (walk (view_at m₀ n).holdings q) + steps ≤ n
   pub codes : (g : ℕ → ℕ) → Coded m₀ n g → (k : ℕ → ℕ) × Coded m n k × ((x : ℕ) → written_above (view_at m₀ n).holdings f q c k x ≡ written_above (view_at m₀ n).holdings f top c g x)
 
-pub record Writing (m₀ m : List ℕ) (n top f other q left : ℕ) (c : ℕ → ℕ → ℕ) : Type 0 where
+pub record Writing (m₀ m : List ℕ) (n top f other q steps : ℕ) (c : ℕ → ℕ → ℕ) : Type 0 where
   pub only : PendOnly m₀ m n
   pub low : q < n
-  pub right : SoundAt m₀ n → Ends m₀ n top f other → Reached m₀ m n top f q left c
+  pub right : SoundAt m₀ n → Ends m₀ n top f other → Reached m₀ m n top f q steps c
 
 abbrev pub Answers : List ℕ → List ℕ → ℕ → ℕ → ℕ → ℕ → (ℕ → ℕ → ℕ) → Type 0
 Answers m₀ m n top f other c = Codes m₀ m n (Ends m₀ n top f other) (written_above (view_at m₀ n).holdings f top c)
 
-pub writing_start : (m : List ℕ) (n top f other : ℕ) (c : ℕ → ℕ → ℕ) → top < n → Writing m m n top f other top n c
+pub writing_start : (m : List ℕ) (n top f other : ℕ) (c : ℕ → ℕ → ℕ) → top < n → Writing m m n top f other top 0 c
 writing_start m n top f other c i = record {
   only = pend_same m n;
   low = i;
-  right = λ s v. record { live = v.first_live; most = room_most m n top i; codes = λ g k. (g, k, λ x. refl) };
+  right = λ s v. record { live = v.first_live; most = omega (arith, room_most m n top i); codes = λ g k. (g, k, λ x. refl) };
 }
 
-module _ (m₀ m : List ℕ) (n top f other q left : ℕ) (c : ℕ → ℕ → ℕ) (laid : Laid m₀ n) (f<n : f < n) (w : Writing m₀ m n top f other q left c) where
-  pub writing_out : left ≡ 0 → Answers m₀ m n top f other c
+module _ (m₀ m : List ℕ) (n top f other q steps : ℕ) (c : ℕ → ℕ → ℕ) (laid : Laid m₀ n) (f<n : f < n) (w : Writing m₀ m n top f other q steps c) where
+  pub writing_out : n ≤ steps → Answers m₀ m n top f other c
   writing_out z = record { only = w.only; right = λ s v g k. absurd (omega (arith, (w.right s v).most, walk_some (view_at m₀ n).holdings q)) }
 
   -- the index of the block come to, and of the block above which it writes
@@ -120,9 +120,9 @@ module _ (m₀ m : List ℕ) (n top f other q left : ℕ) (c : ℕ → ℕ → �
         last_one : SoundAt m₀ n → Ends m₀ n top f other → (k : ℕ → ℕ) → Coded m n k → (x : ℕ) → put_at k q b x ≡ written_above (view_at m₀ n).holdings f q c k x
         last_one s v k y x = rw (in_end (view_at m₀ n).holdings f q (higher s v) (after_next s ∙ placed_out n r l)) (by_bool (eqb x q) (λ e. rw (e, eqb-true x q e) (is s v k y)) (λ e. rw e))
 
-    pub writing_more : r < n → 0 < left → Writing m₀ m₂ n top f other r (left - 1) c
+    pub writing_more : r < n → Writing m₀ m₂ n top f other r (steps + 1) c
     unfolding elem
-    writing_more l z = record {
+    writing_more l = record {
       only = after_only;
       low = l;
       right = λ s v.

@@ -3,7 +3,7 @@ use mathlib.Core.Path.{◌≡◌, refl, sym, ap, ◌∙◌}
 use mathlib.Core.Bool.{true}
 use mathlib.Core.List.{List}
 use mathlib.Core.Option.{Option, none, some}
-use Prim.Native.Nat.{ℕ, ◌+◌, ◌-◌, ◌≤◌, ◌<◌}
+use Prim.Native.Nat.{ℕ, ◌+◌, ◌≤◌, ◌<◌}
 use native.Mathlib.Omega.{arith}
 use lib.Dec.{ltb, leb}
 use lib.ListN.{length}
@@ -55,26 +55,26 @@ module _ (h : Holdings) where
 
 -- ---- in a memory: the search ----
 
-pub record Reached (m : List ℕ) (n s i q left : ℕ) : Type 0 where
+pub record Reached (m : List ℕ) (n s i q steps : ℕ) : Type 0 where
   pub live : q < n → is_live (cells_of m n q) ≡ true
-  pub most : q < n → length (walk (view_at m n).holdings q) ≤ left
+  pub most : q < n → length (walk (view_at m n).holdings q) + steps ≤ n
   pub from : level_from (view_at m n).holdings i (placed n s) ≡ level_from (view_at m n).holdings i (placed n q)
 
 abbrev pub Searching : List ℕ → ℕ → ℕ → ℕ → ℕ → ℕ → Type 0
-Searching m n s i q left = SoundAt m n → (s < n → is_live (cells_of m n s) ≡ true) → Reached m n s i q left
+Searching m n s i q steps = SoundAt m n → (s < n → is_live (cells_of m n s) ≡ true) → Reached m n s i q steps
 
 abbrev pub Answers : List ℕ → ℕ → ℕ → ℕ → ℕ → Type 0
 Answers m n s i r = SoundAt m n → (s < n → is_live (cells_of m n s) ≡ true) → level_from (view_at m n).holdings i (placed n s) ≡ placed n r
 
 module _ (m : List ℕ) (n s i : ℕ) where
-  pub level_start : Searching m n s i s n
-  level_start k v = record { live = v; most = λ l. room_most m n s l; from = refl }
+  pub level_start : Searching m n s i s 0
+  level_start k v = record { live = v; most = λ l. omega (arith, room_most m n s l); from = refl }
 
-  module _ (q left : ℕ) (c : Searching m n s i q left) where
+  module _ (q steps : ℕ) (c : Searching m n s i q steps) where
     pub level_none : n ≤ q → Answers m n s i n
     level_none l k v = (c k v).from ∙ rw (placed_out n q l) (sym (placed_out n n (omega arith)))
 
-    pub level_out : left ≡ 0 → Answers m n s i n
+    pub level_out : n ≤ steps → Answers m n s i n
     level_out z k v = by_bool (ltb q n) (λ b. absurd (omega (arith, (c k v).most (ltb-true q n b), walk_some (view_at m n).holdings q))) (λ b. level_none (ltb-false q n b) k v)
 
     module _ (q<n : q < n) where
@@ -84,8 +84,8 @@ module _ (m : List ℕ) (n s i : ℕ) where
       pub level_met : word m (row q + 12) ≤ i → Answers m n s i q
       level_met l k v = (c k v).from ∙ rw (placed_in n q q<n) (level_here (view_at m n).holdings i q (omega (arith, here k v)))
 
-      pub level_more : (r : ℕ) → i < word m (row q + 12) → (SoundAt m n → parent (view_at m n).holdings q ≡ placed n r) → 0 < left → Searching m n s i r (left - 1)
-      level_more r l d z k v =
+      pub level_more : (r : ℕ) → i < word m (row q + 12) → (SoundAt m n → parent (view_at m n).holdings q ≡ placed n r) → Searching m n s i r (steps + 1)
+      level_more r l d k v =
           let w = c k v in record {
             live = λ j. let e = d k ∙ placed_in n r j in sym (ap is_live (view_cell m n r)) ∙ (parent-some (view_at m n).holdings q r e).1;
             most = λ j. omega (arith, w.most q<n, walk_less (view_at m n).holdings q r (d k ∙ placed_in n r j));

@@ -30,9 +30,6 @@ cell_index m n p i u = sym (index_word m n p i u) ∙ ap index_of (view_cell m n
 
 -- ---- the floor ----
 
-pub floor_unproven : (r t b : Bool) → r ≡ t → r ≡ false → false ≡ (t && b)
-floor_unproven r t b e z = rw (← e, z)
-
 module _ (m : List ℕ) (n local f : ℕ) (local<n : local < n) (f<n : f < n) where
   pub floor_proven : (floor : Option ℕ) (r s t : Bool) → r ≡ t → r ≡ true → s ≡ below floor (word m (row f + 12)) (word m (row local + 12)) → Used m local → Used m f → s ≡ (t && below floor (index_of (cells_of m n f)) (index_of (cells_of m n local)))
   floor_proven floor r s t e z k u v = rw (← e, z, ← cell_index m n local local<n u, ← cell_index m n f f<n v) k

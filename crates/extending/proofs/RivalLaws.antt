@@ -3,7 +3,7 @@ use mathlib.Core.Path.{◌≡◌, sym, ap, ◌∙◌}
 use mathlib.Core.Bool.{true}
 use mathlib.Core.List.{List}
 use mathlib.Core.Option.{some}
-use Prim.Native.Nat.{ℕ, ◌+◌, ◌-◌, ◌≤◌, ◌<◌}
+use Prim.Native.Nat.{ℕ, ◌+◌, ◌≤◌, ◌<◌}
 use native.Mathlib.Omega.{arith}
 use Rattle.memory.specs.Layout.{Laid, row}
 use Rattle.memory.specs.Words.{word}
@@ -27,21 +27,21 @@ pub record Beside (m₀ : List ℕ) (n top q s : ℕ) : Type 0 where
   pub live : s < n → is_live (cells_of m₀ n s) ≡ true
   pub from : (i : ℕ) → i ≤ index_of ((view_at m₀ n).holdings.cells q) → level_of (view_at m₀ n).holdings i top ≡ level_from (view_at m₀ n).holdings i (placed n s)
 
-pub record Stepping (m₀ m : List ℕ) (n local f top q s left : ℕ) : Type 0 where
-  pub ours : Writing m₀ m n local f top q left (orphan_code (view_at m₀ n).holdings top)
+pub record Stepping (m₀ m : List ℕ) (n local f top q s steps : ℕ) : Type 0 where
+  pub ours : Writing m₀ m n local f top q steps (orphan_code (view_at m₀ n).holdings top)
   pub theirs : SoundAt m₀ n → Ends m₀ n local f top → Beside m₀ n top q s
 
-pub step_start : (m : List ℕ) (n local f top : ℕ) → local < n → top < n → Stepping m m n local f top local top n
+pub step_start : (m : List ℕ) (n local f top : ℕ) → local < n → top < n → Stepping m m n local f top local top 0
 step_start m n local f top i j = record {
   ours = writing_start m n local f top (orphan_code (view_at m n).holdings top) i;
   theirs = λ s v. record { live = λ k. v.last_live; from = λ x l. sym (ap (level_from (view_at m n).holdings x) (placed_in n top j)) };
 }
 
-module _ (m₀ m : List ℕ) (n local f top q s left : ℕ) (laid : Laid m₀ n) (f<n : f < n) (w : Stepping m₀ m n local f top q s left)
+module _ (m₀ m : List ℕ) (n local f top q s steps : ℕ) (laid : Laid m₀ n) (f<n : f < n) (w : Stepping m₀ m n local f top q s steps)
     (x : ℕ) (lv : SoundAt m n → (s < n → is_live (cells_of m n s) ≡ true) → level_from (view_at m n).holdings (word m (row q + 12)) (placed n s) ≡ placed n x) where
   module _ (k : SoundAt m₀ n) (v : Ends m₀ n local f top) where
     high : index_of ((view_at m₀ n).holdings.cells q) ≡ word m (row q + 12)
-    high = here_index m₀ m n local f top q left (orphan_code (view_at m₀ n).holdings top) laid f<n w.ours k v
+    high = here_index m₀ m n local f top q steps (orphan_code (view_at m₀ n).holdings top) laid f<n w.ours k v
 
     found : level_from (view_at m₀ n).holdings (index_of ((view_at m₀ n).holdings.cells q)) (placed n s) ≡ placed n x
     found = rw (pend_view m₀ m n w.ours.only, ← high) at (lv (pend_sound m₀ m n laid w.ours.only k) (λ j. ap is_live (pend_cell m₀ m n laid w.ours.only s) ∙ (w.theirs k v).live j))
@@ -68,11 +68,11 @@ module _ (m₀ m : List ℕ) (n local f top q s left : ℕ) (laid : Laid m₀ n)
 
   module _ (m₂ : List ℕ) (t : word m₀ (row f + 12) < word m (row q + 12)) (b : ℕ) (e : (x < n → is_live (cells_of m n x) ≡ true) → b ≡ rival_code (view_at m n).holdings (word m (row q + 12)) (placed n x))
       (st : Codes m m₂ n (is_live (cells_of m n q) ≡ true) (λ k. put_at k q b)) (r : ℕ) (d : SoundAt m₂ n → parent (view_at m₂ n).holdings q ≡ placed n r) where
-    pub step_more : r < n → 0 < left → Stepping m₀ m₂ n local f top r x (left - 1)
-    step_more l z = record {
-      ours = writing_more m₀ m n local f top q left (orphan_code (view_at m₀ n).holdings top) laid f<n w.ours m₂ t b st (step_code b e) r d l z;
-      theirs = step_beside r (λ k. after_next m₀ m n local f top q left (orphan_code (view_at m₀ n).holdings top) laid f<n w.ours m₂ t b st (step_code b e) r d k ∙ placed_in n r l);
+    pub step_more : r < n → Stepping m₀ m₂ n local f top r x (steps + 1)
+    step_more l = record {
+      ours = writing_more m₀ m n local f top q steps (orphan_code (view_at m₀ n).holdings top) laid f<n w.ours m₂ t b st (step_code b e) r d l;
+      theirs = step_beside r (λ k. after_next m₀ m n local f top q steps (orphan_code (view_at m₀ n).holdings top) laid f<n w.ours m₂ t b st (step_code b e) r d k ∙ placed_in n r l);
     }
 
     pub step_none : n ≤ r → Answers m₀ m₂ n local f top (orphan_code (view_at m₀ n).holdings top)
-    step_none l = writing_none m₀ m n local f top q left (orphan_code (view_at m₀ n).holdings top) laid f<n w.ours m₂ t b st (step_code b e) r d l
+    step_none l = writing_none m₀ m n local f top q steps (orphan_code (view_at m₀ n).holdings top) laid f<n w.ours m₂ t b st (step_code b e) r d l

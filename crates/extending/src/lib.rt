@@ -30,14 +30,6 @@ pub enum Judged {
     Accepted(Reason),
 }
 
-// ---- one block ----
-
-// ---- what is gathered ----
-
-// ---- our side ----
-
-// ---- a side of the comparison ----
-
 // ---- stale ----
 
 // Whether a refused extension is stale: its bottom and two epochs, each step saturating at 64 bits, are no higher than local.
@@ -61,12 +53,10 @@ fn orphan_stale(mem: &mut [u64], n: usize, leaf: usize)
     ensures { Codes mem.old mem.new n (is_live (cells_of mem.old n leaf) ≡ true) (staled (view_at mem.old n).holdings leaf) }
 {
     let mut q = leaf;
-    let mut left = n;
-    while 0 < left {
+    for _ in 0..n {
         if places::canonical(mem, n, q) {
             return;
         }
-        left -= 1;
         writing::write(mem, n, q, 4);
         q = standing::parent(mem, n, q);
         if n <= q {
@@ -97,15 +87,13 @@ fn level(mem: &[u64], n: usize, s: usize, i: u64) -> usize
     ensures { SoundAt mem.now n → (s < n → is_live (cells_of mem.now n s) ≡ true) → level_from (view_at mem.now n).holdings i (placed n s) ≡ placed n result }
 {
     let mut q = s;
-    let mut left = n;
-    while 0 < left {
+    for _ in 0..n {
         if n <= q {
             return n;
         }
         if mem[64 + 68 * q + 12] <= i {
             return q;
         }
-        left -= 1;
         q = standing::parent(mem, n, q);
     }
     n
@@ -120,13 +108,11 @@ fn orphan_ours(mem: &mut [u64], n: usize, local: usize, f: usize, top: usize)
     let low = mem[64 + 68 * f + 12];
     let mut q = local;
     let mut s = top;
-    let mut left = n;
-    while 0 < left {
+    for _ in 0..n {
         let i = mem[64 + 68 * q + 12];
         if i <= low {
             return;
         }
-        left -= 1;
         s = level(mem, n, s, i);
         let c = rival_code(mem, n, s, i);
         writing::write(mem, n, q, c);
@@ -155,12 +141,10 @@ fn promote_front(mem: &mut [u64], n: usize, top: usize, f: usize)
 {
     let low = mem[64 + 68 * f + 12];
     let mut q = top;
-    let mut left = n;
-    while 0 < left {
+    for _ in 0..n {
         if mem[64 + 68 * q + 12] <= low {
             return;
         }
-        left -= 1;
         let c = promote_code(writing::code(mem, n, q));
         writing::write(mem, n, q, c);
         q = standing::parent(mem, n, q);
@@ -177,10 +161,8 @@ fn held_back(mem: &[u64], n: usize, local: usize, f: usize, floor: Floor) -> boo
     requires { Laid mem.now n × (local < n) × (f < n) }
     ensures { Used mem.now local → Used mem.now f → result ≡ (proofs_ok (values_of mem.now n canonical local) && below (floor_means floor) (index_of (cells_of mem.now n f)) (index_of (cells_of mem.now n local))) }
 {
-    if !deciding::proven_at(mem, n, local) {
-        return false;
-    }
-    walks::below(floor, mem[64 + 68 * f + 12], mem[64 + 68 * local + 12])
+    deciding::proven_at(mem, n, local)
+        && walks::below(floor, mem[64 + 68 * f + 12], mem[64 + 68 * local + 12])
 }
 
 // Our walk above the ancestor f against the safe front.

@@ -51,16 +51,14 @@ fn write_out(mem: &mut [u64], n: usize, time: Time, reason: Reason, list: &mut [
     ensures { WritesOut mem.old mem.new n (clock_of time) (reason_means reason) list.old list.new result }
 {
     let places = list.len() / 16;
-    let mut i = 0;
-    while i < places {
+    for i in 0..places {
         let e = next(mem, n, time, reason);
         if e.state == 0 {
             return i;
         }
         put(list, 16 * i, e);
-        i += 1;
     }
-    i
+    places
 }
 
 // ---- a call ----

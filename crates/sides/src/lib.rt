@@ -53,10 +53,7 @@ pub fn safe_at(mem: &[u64], n: usize, p: usize, blocks: u64, covered: bool) -> b
     requires { Laid mem.now n × (p < n) }
     ensures { Used mem.now p → result ≡ (not covered || cell_covers blocks (cells_of mem.now n p)) }
 {
-    if !covered {
-        return true;
-    }
-    choice::covers(mem[64 + 68 * p + 12], mem[64 + 68 * p + 13], blocks)
+    !covered || choice::covers(mem[64 + 68 * p + 12], mem[64 + 68 * p + 13], blocks)
 }
 
 // One more block below those passed.
@@ -102,12 +99,10 @@ fn walked_tip(mem: &[u64], n: usize, local: usize, f: usize) -> usize
         length: 0,
         meets: true,
     };
-    let mut left = n;
-    while 0 < left {
+    for _ in 0..n {
         if mem[64 + 68 * q + 12] <= low {
             return front.top;
         }
-        left -= 1;
         let meets = meets_at(mem, n, q);
         front = pass(front, n, q, meets, meets);
         q = standing::parent(mem, n, q);

@@ -2,7 +2,7 @@
 use mathlib.Core.Path.{◌≡◌, refl, sym, ap, ◌∙◌}
 use mathlib.Core.Bool.{Bool, true, false, not, ◌||◌}
 use mathlib.Core.List.{List, [], ◌∷◌}
-use Prim.Native.Nat.{ℕ, ◌+◌, ◌-◌, ◌≤◌, ◌<◌}
+use Prim.Native.Nat.{ℕ, ◌+◌, ◌≤◌, ◌<◌}
 use native.Mathlib.Omega.{arith}
 use lib.ListN.{length}
 use lib.Dec.{eqb, ltb}
@@ -75,31 +75,31 @@ after_put up h c q l x =
 
 -- ---- the loop ----
 
-pub record Part (m₀ m : List ℕ) (n : ℕ) (up : Bool) (a : Asked) (top f q left : ℕ) (c : ℕ → ℕ) : Type 0 where
+pub record Part (m₀ m : List ℕ) (n : ℕ) (up : Bool) (a : Asked) (top f q steps : ℕ) (c : ℕ → ℕ) : Type 0 where
   pub live : is_live ((view_at m₀ n).holdings.cells q) ≡ true
-  pub most : length (walk (view_at m₀ n).holdings q) ≤ left
+  pub most : length (walk (view_at m₀ n).holdings q) + steps ≤ n
   pub codes : ℕ → ℕ
   pub coded : Coded m n codes
   pub same : (x : ℕ) → after up (view_at m₀ n).holdings codes (above a f q) x ≡ after up (view_at m₀ n).holdings c (above a f top) x
 
-pub record Climbing (m₀ m : List ℕ) (n : ℕ) (up : Bool) (top f q left : ℕ) : Type 0 where
+pub record Climbing (m₀ m : List ℕ) (n : ℕ) (up : Bool) (top f q steps : ℕ) : Type 0 where
   pub only : PendOnly m₀ m n
   pub low : q < n
   pub laid : Laid m n
   pub right : SoundAt m₀ n → (a : Asked) → a.holdings ≡ (view_at m₀ n).holdings → is_live ((view_at m₀ n).holdings.cells top) ≡ true → Used m₀ f → (c : ℕ → ℕ) → Coded m₀ n c
-      → Part m₀ m n up a top f q left c
+      → Part m₀ m n up a top f q steps c
 
-pub climbing_start : (m : List ℕ) (n : ℕ) (up : Bool) (top f : ℕ) → Laid m n → top < n → Climbing m m n up top f top n
+pub climbing_start : (m : List ℕ) (n : ℕ) (up : Bool) (top f : ℕ) → Laid m n → top < n → Climbing m m n up top f top 0
 climbing_start m n up top f laid l = record {
   only = pend_same m n;
   low = l;
   laid = laid;
-  right = λ s a e v u c k. record { live = v; most = room_most m n top l; codes = c; coded = k; same = λ x. refl };
+  right = λ s a e v u c k. record { live = v; most = omega (arith, room_most m n top l); codes = c; coded = k; same = λ x. refl };
 }
 
-module _ (m₀ m : List ℕ) (n : ℕ) (up : Bool) (top f q left : ℕ) (laid : Laid m₀ n) (f<n : f < n) (p : Climbing m₀ m n up top f q left) where
+module _ (m₀ m : List ℕ) (n : ℕ) (up : Bool) (top f q steps : ℕ) (laid : Laid m₀ n) (f<n : f < n) (p : Climbing m₀ m n up top f q steps) where
   -- what is left of the walk has a place
-  pub climbing_out : left ≡ 0 → Climbs m₀ m n up top f
+  pub climbing_out : n ≤ steps → Climbs m₀ m n up top f
   climbing_out z = record { only = p.only; right = λ s a e v u c k. absurd (omega (arith, (p.right s a e v u c k).most, walk_some (view_at m₀ n).holdings q)) }
 
   module _ (s : SoundAt m₀ n) (a : Asked) (e : a.holdings ≡ (view_at m₀ n).holdings) (v : is_live ((view_at m₀ n).holdings.cells top) ≡ true) (u : Used m₀ f) (c : ℕ → ℕ) (k : Coded m₀ n c) where
@@ -160,7 +160,7 @@ module _ (m₀ m : List ℕ) (n : ℕ) (up : Bool) (top f q left : ℕ) (laid : 
           ended s a e v u c k m₂ (put_at (p.right s a e v u c k).codes q y) [] refl (coded_now s a e v u c k) (same_now s a e v u c k [] (high s a e v u c k i ∙ rw o));
     }
 
-    pub climbing_more : r < n → Climbing m₀ m₂ n up top f r (left - 1)
+    pub climbing_more : r < n → Climbing m₀ m₂ n up top f r (steps + 1)
     climbing_more l = record {
       only = climbing_only;
       low = l;

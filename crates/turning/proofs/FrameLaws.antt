@@ -73,9 +73,6 @@ line_coded m m' n f laid o =
     (λ q h. o.only (row q + 59) (λ r i e. omega arith))
     (λ j h. o.only _ (λ r i e. omega arith))
 
-pub line_laid : (m m' : List ℕ) (n : ℕ) → LineOnly m m' n → Laid m n → Laid m' n
-line_laid m m' n o = tree_laid m m' n (line_tree m m' n o)
-
 pub turns_all : (m m₁ m₂ : List ℕ) (n : ℕ) (t : Turn) (top k : ℕ) → Laid m n → LineOnly m m₁ n → (SoundAt m n → Used m top → Lined m₁ n top k)
     → Codes m₁ m₂ n (Lined m₁ n top k) (λ f q. turned t (view_at m₁ n).holdings top q (f q)) → TurnsAll m m₂ n t top
 turns_all m m₁ m₂ n t top k laid o l c = record {

@@ -1,19 +1,14 @@
 -- Whether some place passes, by trying one after another.
 use mathlib.Core.Path.{◌≡◌}
 use mathlib.Core.Bool.{Bool, true, false}
-use Prim.Native.Nat.{ℕ, ◌+◌, ◌≤◌, ◌<◌}
+use Prim.Native.Nat.{ℕ, ◌≤◌, ◌<◌}
 use native.Mathlib.Omega.{arith}
-use lib.Dec.{eqb}
-use borrow.Author.Tests.{eqb-true, eqb-false}
 use Rattle.model.specs.Places.{first, is_some}
-use Rattle.model.proofs.Tools.{by_bool, by_option, no_both, first_some, first_exists}
+use Rattle.model.proofs.Tools.{by_option, no_both, first_some, first_exists}
 
 -- none below i passes
 abbrev pub NoneBelow : (ℕ → Bool) → ℕ → Type 0
 NoneBelow f i = (q : ℕ) → q < i → f q ≡ false
-
-pub none_more : (f : ℕ → Bool) (i : ℕ) → f i ≡ false → NoneBelow f i → NoneBelow f (i + 1)
-none_more f i e k q l = by_bool (eqb q i) (λ x. let z : q ≡ i = eqb-true q i x in rw z e) (λ x. let ne = eqb-false q i x in k q (omega arith))
 
 pub some_there : (f : ℕ → Bool) (n i : ℕ) → i < n → f i ≡ true → true ≡ is_some (first f n)
 some_there f n i l e = let k = first_exists f n i e l in let z = k.1 in rw z

@@ -66,9 +66,6 @@ pub record Passing (m₀ m : List ℕ) (n : ℕ) (t : Turn) (top k i : ℕ) : Ty
   pub right : SoundAt m₀ n → Lined m₀ n top k → (f : ℕ → ℕ) → Coded m₀ n f → Coded m n (up_to (λ q. turned t (view_at m₀ n).holdings top q (f q)) f i)
 
 module _ (m₀ : List ℕ) (n : ℕ) (t : Turn) (top k : ℕ) where
-  pub passing_start : Passing m₀ m₀ n t top k 0
-  passing_start = record { only = pend_same m₀ n; right = λ s l f a. coded_same m₀ n f (up_to (λ q. turned t (view_at m₀ n).holdings top q (f q)) f 0) (λ q h. rw (le-ltb q 0 (omega arith))) a }
-
   pub passing_done : (m : List ℕ) (i : ℕ) → n ≤ i → Passing m₀ m n t top k i → Codes m₀ m n (Lined m₀ n top k) (λ f q. turned t (view_at m₀ n).holdings top q (f q))
   passing_done m i l p = record {
     only = p.only;

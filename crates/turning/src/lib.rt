@@ -72,18 +72,11 @@ fn turned(mem: &[u64], n: usize, turn: Turn, top: usize, k: usize, q: usize) -> 
     ensures { SoundAt mem.now n → Lined mem.now n top k → ((word mem.now (row q + 59) ≡ 0 → ⊥) → Used mem.now q) → result ≡ turned_to turn (view_at mem.now n).holdings top q (word mem.now (row q + 59)) }
 {
     match turn {
-        Turn::Off(floor) => {
-            return turn_off(mem, n, floor, top, k, q);
-        }
-        Turn::Near => {
-            return turn_near(mem, n, top, k, q);
-        }
+        Turn::Off(floor) => turn_off(mem, n, floor, top, k, q),
+        Turn::Near => turn_near(mem, n, top, k, q),
         Turn::Into(to) => {
             let c = writing::code(mem, n, q);
-            if c == 8 {
-                return to;
-            }
-            return c;
+            if c == 8 { to } else { c }
         }
     }
 }
@@ -98,20 +91,18 @@ fn put(mem: &mut [u64], n: usize, p: usize, c: u64)
     }
     if c == 0 {
         writing::unwrite(mem, n, p);
-        return;
+    } else {
+        writing::write(mem, n, p, c);
     }
-    writing::write(mem, n, p, c);
 }
 
 fn pass(mem: &mut [u64], n: usize, turn: Turn, top: usize, k: usize)
     requires { Laid mem.old n × (top < n) }
     ensures { Codes mem.old mem.new n (Lined mem.old n top k) (λ f q. turned_to turn (view_at mem.old n).holdings top q (f q)) }
 {
-    let mut i = 0;
-    while i < n {
+    for i in 0..n {
         let c = turned(mem, n, turn, top, k, i);
         put(mem, n, i, c);
-        i += 1;
     }
 }
 
@@ -120,12 +111,10 @@ pub fn has(mem: &[u64], n: usize, c: u64) -> bool
     requires { Laid mem.now n }
     ensures { result ≡ is_some (first (λ q. eqb (word mem.now (row q + 59)) c) n) }
 {
-    let mut i = 0;
-    while i < n {
+    for i in 0..n {
         if writing::code(mem, n, i) == c {
             return true;
         }
-        i += 1;
     }
     false
 }
@@ -154,9 +143,7 @@ pub fn climb(mem: &mut [u64], n: usize, up: bool, top: usize, f: usize)
     ensures { Climbs mem.old mem.new n up top f }
 {
     let mut q = top;
-    let mut left = n;
-    while 0 < left {
-        left -= 1;
+    for _ in 0..n {
         if mem[64 + 68 * q + 12] <= mem[64 + 68 * f + 12] {
             return;
         }

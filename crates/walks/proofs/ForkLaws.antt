@@ -3,7 +3,7 @@ use mathlib.Core.Path.{◌≡◌, refl, sym, ap, ◌∙◌}
 use mathlib.Core.Bool.{false}
 use mathlib.Core.List.{List}
 use mathlib.Core.Option.{Option, none, some}
-use Prim.Native.Nat.{ℕ, ◌+◌, ◌*◌, ◌-◌, ◌≤◌, ◌<◌}
+use Prim.Native.Nat.{ℕ, ◌+◌, ◌*◌, ◌≤◌, ◌<◌}
 use native.Mathlib.Omega.{arith}
 use lib.ListN.{length}
 use borrow.Author.Tests.{ne_eqb}
@@ -21,11 +21,11 @@ use Rattle.state.specs.View.{view_at}
 use Rattle.state.proofs.FindLaws.{placed_in, placed_out}
 use Rattle.walks.proofs.DownLaws.{walk_some, walk_less, room_most, parent_used, index_word}
 
--- the walks from p and q came down to x and y, and have no more than k + 1 places left
+-- the walks from p and q came down to x and y in k steps, and each step took a place off one of them
 pub record Came (m : List ℕ) (n p q x y k : ℕ) : Type 0 where
   pub here : Used m x
   pub there : Used m y
-  pub most : length (walk (view_at m n).holdings x) + length (walk (view_at m n).holdings y) ≤ k + 1
+  pub most : length (walk (view_at m n).holdings x) + length (walk (view_at m n).holdings y) + k ≤ 2 * n
   pub same : (a : Asked) → a.holdings ≡ (view_at m n).holdings → fork a p q ≡ fork a x y
 
 pub record Coming (m : List ℕ) (n p q x y k : ℕ) : Type 0 where
@@ -38,7 +38,7 @@ abbrev pub Answers : List ℕ → ℕ → ℕ → ℕ → ℕ → Type 0
 Answers m n p q r = SoundAt m n → (a : Asked) → a.holdings ≡ (view_at m n).holdings → Used m p → Used m q → fork a p q ≡ placed n r
 
 module _ (m : List ℕ) (n p q : ℕ) where
-  pub fork_start : p < n → q < n → Coming m n p q p q (2 * n)
+  pub fork_start : p < n → q < n → Coming m n p q p q 0
   fork_start i j = record { low = i; low' = j; right = λ s u v. record { here = u; there = v; most = omega (arith, room_most m n p i, room_most m n q j); same = λ a e. refl } }
 
   module _ (x y k : ℕ) (c : Coming m n p q x y k) where
@@ -46,7 +46,7 @@ module _ (m : List ℕ) (n p q : ℕ) where
     fork_met z s a e u v = (c.right s u v).same a e ∙ ap (fork a x) (sym z) ∙ fork_here a x ∙ sym (placed_in n x c.low)
 
     -- two walks have a place each
-    pub fork_out : k ≡ 0 → Answers m n p q n
+    pub fork_out : 2 * n ≤ k → Answers m n p q n
     fork_out z s a e u v = absurd (omega (arith, (c.right s u v).most, walk_some (view_at m n).holdings x, walk_some (view_at m n).holdings y))
 
     module _ (s : SoundAt m n) (u : Used m p) (v : Used m q) (a : Asked) (e : a.holdings ≡ (view_at m n).holdings) where
@@ -71,8 +71,8 @@ module _ (m : List ℕ) (n p q : ℕ) where
       pub right_none : n ≤ r → Answers m n p q n
       right_none l s a e u v = right_step s u v a e i none (d s ∙ placed_out n r l) ∙ sym (placed_out n n (omega arith))
 
-      pub right_more : r < n → 0 < k → Coming m n p q x r (k - 1)
-      right_more l z = record {
+      pub right_more : r < n → Coming m n p q x r (k + 1)
+      right_more l = record {
         low = c.low;
         low' = l;
         right = λ s u v. let f = d s ∙ placed_in n r l in let w = c.right s u v in record {
@@ -87,8 +87,8 @@ module _ (m : List ℕ) (n p q : ℕ) where
       pub left_none : n ≤ r → Answers m n p q n
       left_none l s a e u v = left_step s u v a e ne i none (d s ∙ placed_out n r l) ∙ sym (placed_out n n (omega arith))
 
-      pub left_more : r < n → 0 < k → Coming m n p q r y (k - 1)
-      left_more l z = record {
+      pub left_more : r < n → Coming m n p q r y (k + 1)
+      left_more l = record {
         low = l;
         low' = c.low';
         right = λ s u v. let f = d s ∙ placed_in n r l in let w = c.right s u v in record {

@@ -1,5 +1,5 @@
 -- A walk that is noted place by place: the words that may change leave the tree of the memory alone, and what is noted is the walk's front.
-use mathlib.Core.Path.{◌≡◌, refl, sym, ap, ◌∙◌}
+use mathlib.Core.Path.{◌≡◌, sym, ap, ◌∙◌}
 use mathlib.Core.List.{List, [], ◌∷◌}
 use Prim.Native.Nat.{ℕ, suc, ◌+◌, ◌≤◌, ◌<◌}
 use native.Mathlib.Omega.{arith}
@@ -38,9 +38,6 @@ line_tree m m' n o = record {
 pub store_laid : (m m' : List ℕ) (n a v : ℕ) → Laid m n → 2 ≤ a → Stored m m' a v → Laid m' n
 store_laid m m' n a v l i s = laid_same m m' n l (stored_other s 0 (λ e. omega arith)) (stored_other s 1 (λ e. omega arith)) (stored_long s)
 
-line_none : (m : List ℕ) (n : ℕ) → LineOnly m m n
-line_none m n = record { long = refl; only = λ a f. refl }
-
 pub line_more : (m m₁ m₂ : List ℕ) (n k v : ℕ) → k < n → LineOnly m m₁ n → Stored m₁ m₂ (row k + 65) v → LineOnly m m₂ n
 line_more m m₁ m₂ n k v i o s = record { long = stored_long s ∙ o.long; only = λ a f. stored_other s a (λ e. f k i e) ∙ o.only a f }
 
@@ -58,15 +55,6 @@ pub record Noting (m m' : List ℕ) (n top q k : ℕ) : Type 0 where
   pub top_low : top < n
   pub laid : Laid m' n
   pub right : SoundAt m n → Reached m m' n top q k
-
-pub noting_start : (m : List ℕ) (n top : ℕ) → Laid m n → top < n → Noting m m n top top 0
-noting_start m n top l i = record {
-  only = line_none m n;
-  low = i;
-  top_low = i;
-  laid = l;
-  right = λ s. record { long = omega arith; rest = λ d. let z : 0 + d ≡ d = omega arith in ap (λ (d : ℕ). get_or (walk (view_at m n).holdings top) d 0) z; at = λ d h. absurd (omega arith) };
-}
 
 head_is : (h : Holdings) (q : ℕ) (l : List ℕ) → walk h q ≡ q ∷ l → get_or (walk h q) 0 0 ≡ q
 head_is h q l e = rw e
@@ -115,5 +103,5 @@ module _ (m m₁ m₂ : List ℕ) (n top q k : ℕ) (c : Noting m m₁ n top q k
         w_long e = sym ((c.right s).long ∙ ap (λ (t : List ℕ). k + length t) e)
 
 -- n places are noted and one is left: no walk is so long
-pub noting_out : (m m' : List ℕ) (n top q k : ℕ) → Noting m m' n top q k → n ≤ k → SoundAt m n → Lined m' n top k
+pub noting_out : (m m' : List ℕ) (n top q k : ℕ) → Noting m m' n top q k → n ≤ k → SoundAt m n → Lined m' n top n
 noting_out m m' n top q k c i s = absurd (omega (arith, (c.right s).long, walk_some (view_at m n).holdings q, room_most m n top c.top_low))

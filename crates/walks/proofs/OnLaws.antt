@@ -103,9 +103,6 @@ module _ (m : List ℕ) (n top k q : ℕ) (i : top < n) (j : q < n) where
     pub on_past : k ≤ word m (row top + 12) - word m (row q + 12) → false ≡ elem q (walk (view_at m n).holdings top)
     on_past h = off (λ x. omega (arith, x.short))
 
-    pub on_out : n ≤ word m (row top + 12) - word m (row q + 12) → false ≡ elem q (walk (view_at m n).holdings top)
-    on_out h = off (λ x. omega (arith, x.short, l.short))
-
     pub on_at : word m (row top + 12) - word m (row q + 12) < k → eqb (word m (row (word m (row top + 12) - word m (row q + 12)) + 65)) q ≡ elem q (walk (view_at m n).holdings top)
     on_at h = by_bool (eqb (word m (row (word m (row top + 12) - word m (row q + 12)) + 65)) q) (λ t. t ∙ sym (there (eqb-true _ q t))) (λ t. t ∙ off (λ x. eqb-false _ q t x.is))
       where

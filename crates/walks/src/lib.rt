@@ -62,12 +62,10 @@ pub fn fork(mem: &[u64], n: usize, p: usize, q: usize) -> usize
 {
     let mut x = p;
     let mut y = q;
-    let mut left = 2 * n;
-    while 0 < left {
+    for _ in 0..2 * n {
         if x == y {
             return x;
         }
-        left -= 1;
         if mem[64 + 68 * x + 12] < mem[64 + 68 * y + 12] {
             y = standing::parent(mem, n, y);
             if n <= y {
@@ -90,16 +88,14 @@ pub fn line(mem: &mut [u64], n: usize, top: usize) -> usize
     ensures right { SoundAt mem.old n → Used mem.old top → Lined mem.new n top result }
 {
     let mut q = top;
-    let mut k = 0;
-    while k < n {
+    for k in 0..n {
         mem[64 + 68 * k + 65] = q as u64;
-        k += 1;
         q = standing::parent(mem, n, q);
         if n <= q {
-            return k;
+            return k + 1;
         }
     }
-    k
+    n
 }
 
 // Whether place q stands on the walk that is noted: it does exactly if it is the one noted at its distance from the top, as indexes fall by one

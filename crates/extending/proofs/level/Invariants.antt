@@ -2,8 +2,5 @@
 use Rattle.extending.proofs.LevelLaws.{Searching}
 use Rattle.extending.proofs.level.Given as goal
 
-abbrev pub invariant-loop-left : goal.invariant-loop-left
-invariant-loop-left l = Searching l.mem l.n l.s l.i l.q l.left
-
-abbrev pub decreases-loop-left : goal.decreases-loop-left
-decreases-loop-left l = l.left
+abbrev pub invariant-loop : goal.invariant-loop
+invariant-loop l = Searching l.mem l.n l.s l.i l.q l.counter

@@ -2,8 +2,5 @@
 use Rattle.extending.proofs.RivalLaws.{Stepping}
 use Rattle.extending.proofs.orphan_ours.Given as goal
 
-abbrev pub invariant-loop-left : goal.invariant-loop-left
-invariant-loop-left l = Stepping l.initial.mem l.mem l.n l.local l.f l.top l.q l.s l.left
-
-abbrev pub decreases-loop-left : goal.decreases-loop-left
-decreases-loop-left l = l.left
+abbrev pub invariant-loop : goal.invariant-loop
+invariant-loop l = Stepping l.initial.mem l.mem l.n l.local l.f l.top l.q l.s l.counter

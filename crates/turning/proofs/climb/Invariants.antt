@@ -2,8 +2,5 @@
 use Rattle.turning.proofs.ClimbLaws.{Climbing}
 use Rattle.turning.proofs.climb.Given as goal
 
-abbrev pub invariant-loop-left : goal.invariant-loop-left
-invariant-loop-left l = Climbing l.initial.mem l.mem l.n l.up l.top l.f l.q l.left
-
-abbrev pub decreases-loop-left : goal.decreases-loop-left
-decreases-loop-left l = l.left
+abbrev pub invariant-loop : goal.invariant-loop
+invariant-loop l = Climbing l.initial.mem l.mem l.n l.up l.top l.f l.q l.counter

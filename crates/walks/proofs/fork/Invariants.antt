@@ -2,8 +2,5 @@
 use Rattle.walks.proofs.ForkLaws.{Coming}
 use Rattle.walks.proofs.fork.Given as goal
 
-abbrev pub invariant-loop-left : goal.invariant-loop-left
-invariant-loop-left l = Coming l.mem l.n l.p l.q l.x l.y l.left
-
-abbrev pub decreases-loop-left : goal.decreases-loop-left
-decreases-loop-left l = l.left
+abbrev pub invariant-loop : goal.invariant-loop
+invariant-loop l = Coming l.mem l.n l.p l.q l.x l.y l.counter
