@@ -15,15 +15,26 @@ pub struct Terms {
 
 #[derive(Clone, Copy)]
 pub enum Call {
-    Start(u64, u64, u64, u64),
-    Reload(u64, u64),
+    Start {
+        hashes: u64,
+        journal: u64,
+        generation: u64,
+        version: u64,
+    },
+    Reload {
+        generation: u64,
+        version: u64,
+    },
     Load(u64, Block),
     Put(u64, Block),
     Remove(u64, Hash),
     Answer(Hash, u64),
     Sync,
     Leaves,
-    Changes(u64, u64),
+    Changes {
+        generation: u64,
+        version: u64,
+    },
     Select(Terms),
     Adopt(Terms),
     Lend(u64),
@@ -60,11 +71,11 @@ fn work(word: &[u8]) -> Option<Work> {
     }
 }
 
-fn side(first: &[u8], second: &[u8], third: &[u8]) -> Option<Side> {
+fn side(worth: &[u8], index: &[u8], hash: &[u8]) -> Option<Side> {
     Some(Side {
-        work: work(first)?,
-        index: words::number(second)?,
-        hash: words::hash(third)?,
+        work: work(worth)?,
+        index: words::number(index)?,
+        hash: words::hash(hash)?,
     })
 }
 
@@ -76,11 +87,11 @@ fn floor(word: &[u8]) -> Option<Floor> {
     }
 }
 
-fn read_terms(first: &[u8], second: &[u8], third: &[u8]) -> Option<Terms> {
+fn read_terms(lowest: &[u8], n: &[u8], clock: &[u8]) -> Option<Terms> {
     Some(Terms {
-        floor: floor(first)?,
-        n: words::number(second)?,
-        clock: words::signed(third)?,
+        floor: floor(lowest)?,
+        n: words::number(n)?,
+        clock: words::signed(clock)?,
     })
 }
 
@@ -113,20 +124,30 @@ fn read_question(words: &[&[u8]]) -> Option<Question> {
 }
 
 fn read_call(words: &[&[u8]]) -> Option<Call> {
-    use words::{hash, number, store};
     Some(match words {
-        [b"start", a, b, c, d] => Call::Start(number(a)?, number(b)?, number(c)?, number(d)?),
-        [b"reload", a, b] => Call::Reload(number(a)?, number(b)?),
-        [b"load", a, block @ ..] => Call::Load(store(a)?, blocks::read(block)?),
-        [b"put", a, block @ ..] => Call::Put(store(a)?, blocks::read(block)?),
-        [b"remove", a, b] => Call::Remove(store(a)?, hash(b)?),
-        [b"answer", a, b] => Call::Answer(hash(a)?, number(b)?),
+        [b"start", hashes, journal, generation, version] => Call::Start {
+            hashes: words::number(hashes)?,
+            journal: words::number(journal)?,
+            generation: words::number(generation)?,
+            version: words::number(version)?,
+        },
+        [b"reload", generation, version] => Call::Reload {
+            generation: words::number(generation)?,
+            version: words::number(version)?,
+        },
+        [b"load", store, block @ ..] => Call::Load(words::store(store)?, blocks::read(block)?),
+        [b"put", store, block @ ..] => Call::Put(words::store(store)?, blocks::read(block)?),
+        [b"remove", store, hash] => Call::Remove(words::store(store)?, words::hash(hash)?),
+        [b"answer", hash, value] => Call::Answer(words::hash(hash)?, words::number(value)?),
         [b"sync"] => Call::Sync,
         [b"leaves"] => Call::Leaves,
-        [b"changes", a, b] => Call::Changes(number(a)?, number(b)?),
-        [b"select", a, b, c] => Call::Select(read_terms(a, b, c)?),
-        [b"adopt", a, b, c] => Call::Adopt(read_terms(a, b, c)?),
-        [b"lend", a] => Call::Lend(length(a)?),
+        [b"changes", generation, version] => Call::Changes {
+            generation: words::number(generation)?,
+            version: words::number(version)?,
+        },
+        [b"select", floor, n, clock] => Call::Select(read_terms(floor, n, clock)?),
+        [b"adopt", floor, n, clock] => Call::Adopt(read_terms(floor, n, clock)?),
+        [b"lend", places] => Call::Lend(length(places)?),
         _ => Call::Ask(read_question(words)?),
     })
 }

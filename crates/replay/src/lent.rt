@@ -1,5 +1,5 @@
-// What a history works on, and the calls that work on it (docs/HISTORY.md, "Calls and their answers"). A line that is no call changes
-// nothing.
+// What a history works on, and the calls that work on it (docs/HISTORY.md, "Calls and their answers"). A line that is
+// no call changes nothing.
 use crate::calls::{Call, Terms};
 use crate::{answers, calls, lists, questions};
 use block::Done;
@@ -39,6 +39,7 @@ impl<'a> Lent<'a> {
 
     fn changes(&mut self, rt: &impl Print, generation: u64, version: u64) -> io::Result<()> {
         let n = lists::lent_bytes(self.list.len(), self.length);
+        // (Lent to be written, though it is only read: beside a list that is written no proof is made else.)
         let mem = &mut *self.mem;
         let given = cadraspes::changes(mem, generation, version, &mut self.list[..n]);
         answers::listed(rt, given, self.list)
@@ -66,19 +67,26 @@ impl<'a> Lent<'a> {
 
     fn make(&mut self, rt: &impl Print, call: Call) -> io::Result<()> {
         match call {
-            Call::Start(hashes, journal, generation, version) => {
-                self.start(rt, hashes, journal, generation, version)
-            }
-            Call::Reload(generation, version) => {
-                answers::done(rt, cadraspes::reload(self.mem, generation, version))
-            }
+            Call::Start {
+                hashes,
+                journal,
+                generation,
+                version,
+            } => self.start(rt, hashes, journal, generation, version),
+            Call::Reload {
+                generation,
+                version,
+            } => answers::done(rt, cadraspes::reload(self.mem, generation, version)),
             Call::Load(store, b) => answers::done(rt, cadraspes::load(self.mem, store, b)),
             Call::Put(store, b) => answers::done(rt, cadraspes::put(self.mem, store, b)),
             Call::Remove(store, h) => answers::done(rt, cadraspes::remove(self.mem, store, h)),
             Call::Answer(h, value) => answers::done(rt, cadraspes::answer(self.mem, h, value)),
             Call::Sync => answers::done(rt, cadraspes::sync(self.mem)),
             Call::Leaves => self.leaves(rt),
-            Call::Changes(generation, version) => self.changes(rt, generation, version),
+            Call::Changes {
+                generation,
+                version,
+            } => self.changes(rt, generation, version),
             Call::Select(terms) => self.select(rt, terms),
             Call::Adopt(terms) => self.adopt(rt, terms),
             Call::Lend(length) => self.lend(rt, length),

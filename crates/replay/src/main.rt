@@ -1,6 +1,6 @@
-// Replays a history (docs/HISTORY.md) on the library: calls on standard input, a line each, and their answers on standard output.
-// This file reads the lines; `calls` tells the calls apart, and `words`, `reasons` and `blocks` read what stands in a line; `lent` and
-// `questions` make the calls, and `answers`, `lists` and `write` write.
+// Replays a history (docs/HISTORY.md) on the library: calls on standard input, a line each, and their answers on
+// standard output. This file reads the lines; `calls` tells the calls apart, and `words`, `reasons` and `blocks` read
+// what stands in a line; `lent` and `questions` make the calls, and `answers`, `lists` and `write` write.
 #![tactic(auto)]
 
 mod answers;
@@ -45,7 +45,7 @@ fn answer_lines(rt: &impl Print, text: &[u8], lent: &mut Lent) -> io::Result<usi
     Ok(last + 1)
 }
 
-// Where the first line begins that is answered: behind what is left of a line that was too long, where that ends.
+// Where the first line that is answered begins: behind what is left of a line that was too long, where that ends.
 fn first_line(text: &[u8], long: bool) -> Option<usize>
     ensures { IfSome result (λ from. from ≤ length text.now) }
 {
@@ -56,7 +56,8 @@ fn first_line(text: &[u8], long: bool) -> Option<usize>
     Some(end + 1)
 }
 
-// A line that does not fit the text is said to be too long, and the rest of it is passed over. The last line needs no newline.
+// A line that does not fit the text is said to be too long, and the rest of it is passed over. The last line needs no
+// newline.
 // (A proved loop ends, and nothing says that an input does: the turns are as many as no run uses up.)
 fn replay(
     rt: &impl Print,

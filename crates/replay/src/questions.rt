@@ -1,4 +1,5 @@
-// Questions (docs/HISTORY.md, "Calls and their answers"): they ask the holdings, the tree or nothing, and write no memory.
+// Questions (docs/HISTORY.md, "Calls and their answers"): they ask the holdings, the tree or nothing, and write no
+// memory.
 use crate::answers;
 use crate::calls::Question;
 use std::io;
