@@ -3,89 +3,35 @@
 // What it writes is compared with the answers of Rust's own `u128`.
 #![tactic(auto)]
 
-ghost use Rattle.std.specs.Prelude.{◌<◌, ◌≤◌, IfOk, length};
+ghost use Rattle.std.specs.Prelude.{◌≤◌, IfOk, length};
 
-use amount::{Amount, Order, Reading};
+use amount::{Amount, Reading};
 use std::io;
 use std::io::Read;
-
-// A value below 2^128 has at most as many hexadecimal digits.
-const DIGITS: usize = 32;
 
 // The input is shorter: where the buffer is full there may be more.
 const ROOM: usize = 65536;
 
-fn digit(d: u8) -> u8
-    requires { d < 16 }
-{
-    if d < 10 { b'0' + d } else { b'a' + (d - 10) }
-}
-
-fn is_zero(a: Amount) -> bool {
-    match amount::compare(a, amount::zero()) {
-        Order::Equal => true,
-        Order::Less => false,
-        Order::Greater => false,
-    }
-}
-
-// Puts a's digits at the end of text, and answers where they begin.
-fn hex(a: Amount, text: &mut [u8; 32]) -> usize
-    ensures { result ≤ 32 }
-{
-    let mut left = a;
-    for at in (0..DIGITS).rev() {
-        let split = amount::sixteenth(left);
-        left = split.rest;
-        text[at] = digit(split.digit);
-        if is_zero(left) {
-            return at;
-        }
-    }
-    0
-}
-
-fn write_from(rt: &impl Print, text: &[u8; 32], at: usize) -> io::Result<()>
-    requires { at ≤ 32 }
-{
-    let all: &[u8] = text;
-    rt.write_all(&all[at..])
-}
-
+// The second word is the upper one, and is written where it is not zero.
 fn print(rt: &impl Print, a: Amount) -> io::Result<()> {
-    let mut text = [b'0'; 32];
-    let at = hex(a, &mut text);
-    rt.write_all(b"0x")?;
-    write_from(rt, &text, at)?;
-    rt.write_all(b"\n")
+    let words = amount::to_words(a);
+    let low = words.first;
+    match words.second {
+        0 => println!(rt; "0x{low:x}"),
+        high => println!(rt; "0x{high:x}{low:016x}"),
+    }
 }
 
 fn answer(rt: &impl Print, text: &[u8]) -> io::Result<()> {
     match amount::read(text) {
         Reading::Readable(a) => print(rt, a),
-        Reading::Unreadable => rt.write_all(b"?\n"),
+        Reading::Unreadable => println!(rt; "?"),
     }
-}
-
-// Where the line that begins at `from` ends: at the next newline, or at the end of the text.
-fn line_end(text: &[u8], from: usize) -> usize
-    requires { from ≤ length text.now }
-    ensures { (from ≤ result) × (result ≤ length text.now) }
-{
-    for end in from..text.len() {
-        if text[end] == b'\n' {
-            return end;
-        }
-    }
-    text.len()
 }
 
 fn answer_lines(rt: &impl Print, text: &[u8]) -> io::Result<()> {
-    let mut at = 0;
-    while at < text.len() {
-        let end = line_end(text, at);
-        answer(rt, &text[at..end])?;
-        at = end + 1;
+    for line in text.split_inclusive(|b| *b == b'\n') {
+        answer(rt, line.strip_suffix(b"\n").unwrap_or(line))?;
     }
     Ok(())
 }
@@ -112,6 +58,6 @@ fn main(rt: HostRuntime) -> io::Result<()> {
     if n < ROOM {
         answer_lines(&rt, &buf[..n])
     } else {
-        rt.write_all(b"the input is longer than 65535 bytes\n")
+        println!(rt; "the input is longer than 65535 bytes")
     }
 }

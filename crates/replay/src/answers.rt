@@ -7,31 +7,24 @@ use std::io;
 // ---- lines that begin with a question mark ----
 
 pub fn no_call(rt: &impl Print) -> io::Result<()> {
-    write::out(rt, b"? no call\n")
+    println!(rt; "? no call")
 }
 
 pub fn too_long(rt: &impl Print) -> io::Result<()> {
-    write::out(rt, b"? the line is too long\n")
+    println!(rt; "? the line is too long")
 }
 
 pub fn no_start(rt: &impl Print) -> io::Result<()> {
-    write::out(rt, b"? no start was accepted yet\n")
+    println!(rt; "? no start was accepted yet")
 }
 
 // ---- refusals ----
 
-fn number_alone(rt: &impl Print, n: u64) -> io::Result<()> {
-    write::number(rt, n)?;
-    write::out(rt, b"\n")
-}
-
 // The library's other calls answer 1 of a memory that no start laid out.
 fn refused(rt: &impl Print, x: Refusal) -> io::Result<()> {
-    let n = block::numbers::refusal_number(x);
-    if n == 1 {
-        no_start(rt)
-    } else {
-        number_alone(rt, n)
+    match block::numbers::refusal_number(x) {
+        1 => no_start(rt),
+        n => rt.println(n),
     }
 }
 
@@ -39,36 +32,33 @@ fn refused(rt: &impl Print, x: Refusal) -> io::Result<()> {
 
 // Of start.
 pub fn begun(rt: &impl Print, x: Done) -> io::Result<()> {
-    number_alone(rt, block::numbers::done_number(x))
+    rt.println(block::numbers::done_number(x))
 }
 
 pub fn done(rt: &impl Print, x: Done) -> io::Result<()> {
     match x {
-        Done::Done => number_alone(rt, 0),
+        Done::Done => println!(rt; "0"),
         Done::Refused(y) => refused(rt, y),
     }
 }
 
 pub fn counted(rt: &impl Print, x: Counted) -> io::Result<()> {
     match x {
-        Counted::Count(n) => {
-            write::out(rt, b"0 ")?;
-            number_alone(rt, n)
-        }
+        Counted::Count(n) => println!(rt; "0 {n}"),
         Counted::Refused(y) => refused(rt, y),
     }
 }
 
 fn none(rt: &impl Print) -> io::Result<()> {
-    write::out(rt, b"0 none\n")
+    println!(rt; "0 none")
 }
 
 pub fn shown(rt: &impl Print, x: Shown) -> io::Result<()> {
     match x {
         Shown::Block(b) => {
-            write::out(rt, b"0 ")?;
+            print!(rt; "0 ")?;
             blocks::write(rt, b)?;
-            write::out(rt, b"\n")
+            println!(rt)
         }
         Shown::None => none(rt),
         Shown::Refused(y) => refused(rt, y),
@@ -79,16 +69,16 @@ pub fn shown(rt: &impl Print, x: Shown) -> io::Result<()> {
 fn work(rt: &impl Print, w: Amount, ok: bool) -> io::Result<()> {
     write::amount(rt, w)?;
     if ok {
-        write::out(rt, b" ok\n")
+        println!(rt; " ok")
     } else {
-        write::out(rt, b" no\n")
+        println!(rt; " no")
     }
 }
 
 pub fn worth(rt: &impl Print, x: Worth) -> io::Result<()> {
     match x {
         Worth::Linked(w, ok) => {
-            write::out(rt, b"0 ")?;
+            print!(rt; "0 ")?;
             work(rt, w, ok)
         }
         Worth::None => none(rt),
@@ -99,10 +89,9 @@ pub fn worth(rt: &impl Print, x: Worth) -> io::Result<()> {
 pub fn tip(rt: &impl Print, x: Tip) -> io::Result<()> {
     match x {
         Tip::Best(b, w, ok) => {
-            let h = b.header;
-            write::out(rt, b"0 ")?;
-            write::hash(rt, h.hash)?;
-            write::out(rt, b" ")?;
+            print!(rt; "0 ")?;
+            write::hash(rt, b.header.hash)?;
+            print!(rt; " ")?;
             work(rt, w, ok)
         }
         Tip::None => none(rt),
@@ -111,31 +100,26 @@ pub fn tip(rt: &impl Print, x: Tip) -> io::Result<()> {
 }
 
 pub fn reading(rt: &impl Print, r: Reading) -> io::Result<()> {
-    write::out(rt, b"0 ")?;
+    print!(rt; "0 ")?;
     write::reading(rt, r)?;
-    write::out(rt, b"\n")
+    println!(rt)
 }
 
 pub fn chosen(rt: &impl Print, c: Choice) -> io::Result<()> {
-    let outcome = c.outcome;
-    let reason = c.reason;
-    match outcome {
-        Outcome::Equal => write::out(rt, b"0 equal ")?,
-        Outcome::KeepLocal => write::out(rt, b"0 local ")?,
-        Outcome::AdoptPeer => write::out(rt, b"0 remote ")?,
+    match c.outcome {
+        Outcome::Equal => print!(rt; "0 equal ")?,
+        Outcome::KeepLocal => print!(rt; "0 local ")?,
+        Outcome::AdoptPeer => print!(rt; "0 remote ")?,
     }
-    reasons::write(rt, reason)?;
-    write::out(rt, b"\n")
+    reasons::write(rt, c.reason)?;
+    println!(rt)
 }
 
 pub fn planned(rt: &impl Print, x: Planned, entries: &[u64]) -> io::Result<()> {
     match x {
-        Planned::Scan => write::out(rt, b"0 scan\n"),
+        Planned::Scan => println!(rt; "0 scan"),
         Planned::Apply(changed, n) => {
-            write::out(rt, b"0 apply ")?;
-            write::number(rt, changed)?;
-            write::out(rt, b" ")?;
-            number_alone(rt, n as u64)?;
+            println!(rt; "0 apply {changed} {n}")?;
             lists::entries(rt, entries, n)
         }
         Planned::Refused(y) => refused(rt, y),
@@ -145,8 +129,7 @@ pub fn planned(rt: &impl Print, x: Planned, entries: &[u64]) -> io::Result<()> {
 pub fn listed(rt: &impl Print, x: Listed, list: &[u8]) -> io::Result<()> {
     match x {
         Listed::Count(n) => {
-            write::out(rt, b"0 ")?;
-            number_alone(rt, n as u64)?;
+            println!(rt; "0 {n}")?;
             lists::hashes(rt, list, n)
         }
         Listed::None => none(rt),

@@ -1,68 +1,10 @@
 // The words of a line (docs/HISTORY.md, "Words"): where each stands, and the numbers, hashes, times and flags that it may say. Two
 // spaces in a row have an empty word between them, which says nothing, so that no call has it.
-ghost use Rattle.std.specs.Prelude.{ℕ, ◌<◌, ◌≡◌, ◌≢◌, ◌≤◌, length, slice_index};
+ghost use Rattle.std.specs.Prelude.{ℕ, ◌<◌, ◌≡◌, ◌≢◌, ◌≤◌, IfSome, length, slice_index};
 
 use amount::Reading;
 use block::{Competing, Time};
 use hash::Hash;
-
-const MAX: u64 = 18446744073709551615;
-
-// 2^60: a hexadecimal digit more still fits below it.
-const SIXTEENTH: u64 = 1152921504606846976;
-
-// 2^63: the greatest number that a minus sign may stand before.
-const HALF: u64 = 9223372036854775808;
-
-#[derive(Drop)]
-pub enum Numbered {
-    Number(u64),
-    No,
-}
-
-#[derive(Drop)]
-pub enum Hashed {
-    Hash(Hash),
-    No,
-}
-
-// A TEXT, read as an amount.
-#[derive(Drop)]
-pub enum Quoted {
-    Reads(Reading),
-    No,
-}
-
-#[derive(Drop)]
-pub enum Integer {
-    Number(i64),
-    No,
-}
-
-#[derive(Drop)]
-pub enum Timed {
-    Time(Time),
-    No,
-}
-
-#[derive(Drop)]
-pub enum Rival {
-    Hash(Competing),
-    No,
-}
-
-#[derive(Drop)]
-pub enum Flagged {
-    Flags(bool, bool),
-    No,
-}
-
-// Two numbers.
-#[derive(Drop)]
-pub enum Pair {
-    Numbers(u64, u64),
-    No,
-}
 
 // ---- where words stand ----
 
@@ -81,222 +23,101 @@ pub fn find(text: &[u8], from: usize, to: usize, byte: u8) -> usize
     to
 }
 
-// Where the word that begins at `at` ends. A TEXT may hold the separator, so in one it is looked for behind the second quote.
-fn word_end(line: &[u8], separator: u8, at: usize) -> usize
-    requires { at ≤ length line.now }
-    ensures { (at ≤ result) × (result ≤ length line.now) }
+// The first word, and what stands behind its separator, where there is one. A TEXT may hold the separator, so in one it is looked for
+// behind the second quote.
+fn cut(text: &[u8], separator: u8) -> (&[u8], Option<&[u8]>) {
+    let n = text.len();
+    let from = match text {
+        [b'"', ..] => find(text, 1, n, b'"'),
+        _ => 0,
+    };
+    let end = find(text, from, n, separator);
+    (&text[..end], text.get(end + 1..))
+}
+
+// Puts the words into the room, and answers how many they are: none where they are more than it has places.
+pub fn split<'a>(text: &'a [u8], separator: u8, room: &mut [&'a [u8]]) -> Option<usize>
+    ensures { IfSome result (λ n. n ≤ length room.old) }
 {
-    let n = line.len();
-    if at < n {
-        if line[at] == b'"' {
-            let close = find(line, at + 1, n, b'"');
-            return find(line, close, n, separator);
-        }
+    let mut rest = text;
+    for i in 0..room.len() {
+        let (word, more) = cut(rest, separator);
+        room[i] = word;
+        let Some(more) = more else {
+            return Some(i + 1);
+        };
+        rest = more;
     }
-    find(line, at, n, separator)
-}
-
-// How many words there are.
-pub fn count(line: &[u8], separator: u8) -> usize {
-    let mut n = 1;
-    let mut end = word_end(line, separator, 0);
-    while end < line.len() {
-        end = word_end(line, separator, end + 1);
-        n += 1;
-    }
-    n
-}
-
-// Where the word number i, counted from 0, begins; the line's end where there is none.
-fn begin(line: &[u8], separator: u8, i: usize) -> usize
-    ensures { result ≤ length line.now }
-{
-    let mut at = 0;
-    for _ in 0..i {
-        let end = word_end(line, separator, at);
-        if end == line.len() {
-            return end;
-        }
-        at = end + 1;
-    }
-    at
-}
-
-// The word number i, counted from 0; empty where there is none.
-pub fn nth(line: &[u8], separator: u8, i: usize) -> &[u8] {
-    let at = begin(line, separator, i);
-    let end = word_end(line, separator, at);
-    &line[at..end]
-}
-
-// The word number i of a line.
-pub fn word(line: &[u8], i: usize) -> &[u8] {
-    nth(line, b' ', i)
-}
-
-// Whether a line has so many words.
-pub fn has(line: &[u8], n: usize) -> bool {
-    count(line, b' ') == n
-}
-
-pub fn is(word: &[u8], name: &[u8]) -> bool {
-    word == name
-}
-
-// The number of a word among names, counted from 0; how many there are where it is none of them.
-pub fn place(word: &[u8], names: &[u8]) -> usize {
-    let n = count(names, b' ');
-    for i in 0..n {
-        if is(word, nth(names, b' ', i)) {
-            return i;
-        }
-    }
-    n
+    None
 }
 
 // ---- numbers ----
 
-// 10 for what is no digit.
-fn decimal_digit(b: u8) -> u64
-    ensures { result ≤ 10 }
-{
-    match b {
-        b'0'..=b'9' => (b - b'0') as u64,
-        _ => 10,
-    }
+// A capital letter is no digit.
+fn digit(byte: u8, base: u64) -> Option<u64> {
+    let value = match byte {
+        b'0'..=b'9' => byte - b'0',
+        b'a'..=b'f' => byte - b'a' + 10,
+        _ => return None,
+    };
+    Some(u64::from(value)).filter(|value| *value < base)
 }
 
-// 16 for what is no digit.
-fn hex_digit(b: u8) -> u64
-    ensures { result ≤ 16 }
-{
-    match b {
-        b'0'..=b'9' => (b - b'0') as u64,
-        b'a'..=b'f' => (b - b'a') as u64 + 10,
-        _ => 16,
-    }
+// What the digits make, where it is below 2^64: 0 where there are none.
+fn digits(word: &[u8], base: u64) -> Option<u64> {
+    word.iter().try_fold(0u64, |sum, byte| {
+        sum.checked_mul(base)?.checked_add(digit(*byte, base)?)
+    })
 }
 
-pub fn number(word: &[u8]) -> Numbered {
-    if word.len() == 0 {
-        return Numbered::No;
+pub fn number(word: &[u8]) -> Option<u64> {
+    if word.is_empty() {
+        return None;
     }
-    let mut sum: u64 = 0;
-    for b in word {
-        let d = decimal_digit(*b);
-        if 9 < d {
-            return Numbered::No;
-        }
-        if (MAX - d) / 10 < sum {
-            return Numbered::No;
-        }
-        sum = sum * 10 + d;
-    }
-    Numbered::Number(sum)
+    digits(word, 10)
 }
 
 // STORE: a number that fits a byte.
-pub fn store(word: &[u8]) -> Numbered {
-    let Numbered::Number(n) = number(word) else {
-        return Numbered::No;
-    };
-    if 255 < n {
-        return Numbered::No;
-    }
-    Numbered::Number(n)
-}
-
-// -m.
-fn negative(m: u64) -> Integer {
-    if m == 0 {
-        return Integer::Number(0);
-    }
-    if HALF < m {
-        return Integer::No;
-    }
-    Integer::Number(-1 - (m - 1) as i64)
+pub fn store(word: &[u8]) -> Option<u64>
+    ensures { IfSome result (λ n. n ≤ 255) }
+{
+    number(word).filter(|n| *n <= 255)
 }
 
 // CLOCK: a minus sign may stand before it, a plus sign may not.
-pub fn signed(word: &[u8]) -> Integer {
-    if word.len() == 0 {
-        return Integer::No;
+pub fn signed(word: &[u8]) -> Option<i64> {
+    match word.strip_prefix(b"-") {
+        Some(digits) => 0i64.checked_sub_unsigned(number(digits)?),
+        None => i64::try_from(number(word)?).ok(),
     }
-    if word[0] == b'-' {
-        let Numbered::Number(m) = number(&word[1..]) else {
-            return Integer::No;
-        };
-        return negative(m);
-    }
-    let Numbered::Number(m) = number(word) else {
-        return Integer::No;
-    };
-    if HALF <= m {
-        return Integer::No;
-    }
-    Integer::Number(m as i64)
 }
 
-pub fn time(word: &[u8]) -> Timed {
-    if is(word, b"-") {
-        return Timed::Time(Time::None);
+pub fn time(word: &[u8]) -> Option<Time> {
+    match word {
+        b"-" => Some(Time::None),
+        _ => signed(word).map(Time::At),
     }
-    let Integer::Number(x) = signed(word) else {
-        return Timed::No;
-    };
-    Timed::Time(Time::At(x))
 }
 
 // ---- hexadecimal ----
 
-fn hex(digits: &[u8]) -> Numbered {
-    let mut sum: u64 = 0;
-    for b in digits {
-        let d = hex_digit(*b);
-        if 15 < d {
-            return Numbered::No;
-        }
-        if SIXTEENTH <= sum {
-            return Numbered::No;
-        }
-        sum = sum * 16 + d;
-    }
-    Numbered::Number(sum)
-}
-
-fn without(a: usize, b: usize) -> usize
-    ensures { result ≤ a }
+// What the last 16 digits make, or as many as there are, and the digits before them.
+pub fn last_word(word: &[u8]) -> Option<(&[u8], u64)>
+    ensures { IfSome result (λ r. length r.0.now ≤ length word.now) }
 {
-    if a < b { 0 } else { a - b }
+    let (before, last) = word.split_at(word.len().saturating_sub(16));
+    Some((before, digits(last, 16)?))
 }
 
-// The word that 16 digits make, or as many as there are, before the last `skipped` ones.
-pub fn sixteen(digits: &[u8], skipped: usize) -> Numbered {
-    let end = without(digits.len(), skipped);
-    let from = without(end, 16);
-    hex(&digits[from..end])
-}
-
-pub fn hash(word: &[u8]) -> Hashed {
-    if word.len() == 0 {
-        return Hashed::No;
+pub fn hash(word: &[u8]) -> Option<Hash> {
+    if word.is_empty() {
+        return None;
     }
-    if 64 < word.len() {
-        return Hashed::No;
-    }
-    let Numbered::Number(first) = sixteen(word, 48) else {
-        return Hashed::No;
-    };
-    let Numbered::Number(second) = sixteen(word, 32) else {
-        return Hashed::No;
-    };
-    let Numbered::Number(third) = sixteen(word, 16) else {
-        return Hashed::No;
-    };
-    let Numbered::Number(fourth) = sixteen(word, 0) else {
-        return Hashed::No;
-    };
-    Hashed::Hash(Hash {
+    let (before, fourth) = last_word(word)?;
+    let (before, third) = last_word(before)?;
+    let (before, second) = last_word(before)?;
+    let (before, first) = last_word(before)?;
+    before.is_empty().then_some(Hash {
         first,
         second,
         third,
@@ -304,57 +125,31 @@ pub fn hash(word: &[u8]) -> Hashed {
     })
 }
 
-pub fn other(word: &[u8]) -> Rival {
-    if is(word, b"-") {
-        return Rival::Hash(Competing::None);
+pub fn other(word: &[u8]) -> Option<Competing> {
+    match word {
+        b"-" => Some(Competing::None),
+        _ => hash(word).map(Competing::With),
     }
-    let Hashed::Hash(h) = hash(word) else {
-        return Rival::No;
-    };
-    Rival::Hash(Competing::With(h))
 }
 
 // ---- texts and flags ----
 
-// The first quote behind the word's first byte is its last byte.
-pub fn text(word: &[u8]) -> Quoted {
-    let n = word.len();
-    if n < 2 {
-        return Quoted::No;
+// A TEXT, read as an amount: no quote stands between the two at its ends.
+pub fn text(word: &[u8]) -> Option<Reading> {
+    let inside = word.strip_prefix(b"\"")?.strip_suffix(b"\"")?;
+    if inside.contains(&b'"') {
+        return None;
     }
-    if word[0] != b'"' {
-        return Quoted::No;
-    }
-    let close = find(word, 1, n, b'"');
-    if close + 1 != n {
-        return Quoted::No;
-    }
-    Quoted::Reads(amount::read(&word[1..close]))
+    Some(amount::read(inside))
 }
 
 // Orphaned, canonical.
-pub fn flags(word: &[u8]) -> Flagged {
-    match place(word, b"- o c oc") {
-        0 => Flagged::Flags(false, false),
-        1 => Flagged::Flags(true, false),
-        2 => Flagged::Flags(false, true),
-        3 => Flagged::Flags(true, true),
-        _ => Flagged::No,
+pub fn flags(word: &[u8]) -> Option<(bool, bool)> {
+    match word {
+        b"-" => Some((false, false)),
+        b"o" => Some((true, false)),
+        b"c" => Some((false, true)),
+        b"oc" => Some((true, true)),
+        _ => None,
     }
-}
-
-// ---- what two calls have behind their name, and nothing more ----
-
-// GENERATION VERSION
-pub fn two_numbers(line: &[u8]) -> Pair {
-    if !has(line, 3) {
-        return Pair::No;
-    }
-    let Numbered::Number(a) = number(word(line, 1)) else {
-        return Pair::No;
-    };
-    let Numbered::Number(b) = number(word(line, 2)) else {
-        return Pair::No;
-    };
-    Pair::Numbers(a, b)
 }
