@@ -39,7 +39,7 @@ impl<'a> Lent<'a> {
 
     fn changes(&mut self, rt: &impl Print, generation: u64, version: u64) -> io::Result<()> {
         let n = lists::lent_bytes(self.list.len(), self.length);
-        // (Lent to be written, though it is only read: beside a list that is written no proof is made else.)
+        // (Lent to be written, though it is only read: else no proof is found beside a list that is written.)
         let mem = &mut *self.mem;
         let given = cadraspes::changes(mem, generation, version, &mut self.list[..n]);
         answers::listed(rt, given, self.list)
