@@ -36,7 +36,8 @@ fn answer_lines(rt: &impl Print, text: &[u8]) -> io::Result<()> {
     Ok(())
 }
 
-// Fills the buffer as far as the input goes, and answers how many bytes that is.
+// Fills the buffer as far as the input goes, and answers how many bytes that is. (By a loop of its own, since no call of the standard
+// library does this and allocates nothing.)
 fn read_full(input: &mut impl Read, buf: &mut [u8]) -> io::Result<usize>
     ensures { IfOk result (λ n. n ≤ length buf.old) }
 {
