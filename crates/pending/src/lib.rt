@@ -66,14 +66,15 @@ fn add_if_live(mem: &mut [u64], n: usize, p: usize)
     }
 }
 
-// Every live block whose previous hash names the block at p becomes pending. (A walk along the index by previous hash.)
+// Every live block whose previous hash names the block at p becomes pending. (A walk along the index by previous hash. Its steps have a
+// name that only a wrong answer uses.)
 pub fn follow(mem: &mut [u64], n: usize, p: usize)
     requires { Laid mem.old n × (p < n) }
     ensures { Turns mem.old mem.new n (Used mem.old p) (λ pend q. pend q || follows (cells_of mem.old n p) (cells_of mem.old n q)) }
 {
     let h = memory::read_four(mem, 64 + 68 * p + 4);
     let mut x = index::find(mem, n, 64 + 71 * n, 72, false, h.a, h.b, h.c, h.d);
-    for _ in 0..n {
+    for _step in 0..n {
         if n <= x {
             return;
         }

@@ -3,5 +3,5 @@ use Rattle.block.specs.Words.{quad}
 use Rattle.pending.proofs.FollowLaws.{Following}
 use Rattle.pending.proofs.follow.Given as goal
 
-abbrev pub invariant-loop : goal.invariant-loop
-invariant-loop l = Following l.initial.mem l.mem l.n (quad l.h.a l.h.b l.h.c l.h.d) l.x l.counter
+abbrev pub invariant-loop-step : goal.invariant-loop-step
+invariant-loop-step l = Following l.initial.mem l.mem l.n (quad l.h.a l.h.b l.h.c l.h.d) l.x l._step
