@@ -36,8 +36,8 @@ module _ (m₀ m : List ℕ) (n i : ℕ) (clock : ℤ) (reason : Reason) (list�
     only = record { long = p.long ∙ g.only.long; rest = λ j h. p.only j (λ x y. omega arith) ∙ g.only.rest j (omega arith) };
   }
 
-  pub writing_full : places_in list₀ ≤ i → WritesOut m₀ m n clock reason list₀ list (places_in list₀)
-  writing_full full = let z : i ≡ places_in list₀ = omega (arith, g.handing.few, places_are list₀) in record { hands = handing_full m₀ m n i clock reason (entries_in list₀) (entries_in list) laid g.handing (places_in list₀) (rw (places_are list₀) full) (sym (places_are list₀)); only = subst (λ (k : ℕ). FirstOnly list₀ list k) z g.only }
+  pub writing_full : places_in list₀ ≤ i → WritesOut m₀ m n clock reason list₀ list i
+  writing_full full = record { hands = handing_full m₀ m n i clock reason (entries_in list₀) (entries_in list) laid g.handing (rw (places_are list₀) full); only = g.only }
 
   pub writing_short : (e : Entry) (m₂ : List ℕ) → Takes m m₂ n clock reason e → e.state ≡ 0 → WritesOut m₀ m₂ n clock reason list₀ list i
   writing_short e m₂ t z = record { hands = handing_short m₀ m n i clock reason (entries_in list₀) (entries_in list) laid g.handing e m₂ t z; only = g.only }

@@ -45,20 +45,23 @@ fn next(mem: &mut [u64], n: usize, time: Time, reason: Reason) -> Entry
     }
 }
 
-// The entries go into the list, as far as it has places; how many there are. Nothing is written any more.
+// The entries go into the list, as far as it has places; how many there are. Nothing is written any more. (Counted by hand and not by a
+// `for`: wrong answers begin the count at one, or step it by two.)
 fn write_out(mem: &mut [u64], n: usize, time: Time, reason: Reason, list: &mut [u64]) -> usize
     requires { Laid mem.old n }
     ensures { WritesOut mem.old mem.new n (clock_of time) (reason_means reason) list.old list.new result }
 {
     let places = list.len() / 16;
-    for i in 0..places {
+    let mut i = 0;
+    while i < places {
         let e = next(mem, n, time, reason);
         if e.state == 0 {
             return i;
         }
         put(list, 16 * i, e);
+        i += 1;
     }
-    places
+    i
 }
 
 // ---- a call ----
