@@ -54,7 +54,9 @@ pub fn split<'a>(text: &'a [u8], separator: u8, room: &mut [&'a [u8]]) -> Option
 // ---- numbers ----
 
 // A capital letter is no digit.
-fn digit(byte: u8, base: u64) -> Option<u64> {
+fn digit(byte: u8, base: u64) -> Option<u64>
+    ensures { IfSome result (λ d. d < base) }
+{
     let value = match byte {
         b'0'..=b'9' => byte - b'0',
         b'a'..=b'f' => byte - b'a' + 10,
